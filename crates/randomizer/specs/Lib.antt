@@ -1,0 +1,4 @@
+pub mod Stages
+pub mod Packets
+pub mod Laws
+pub mod Row
