@@ -8,7 +8,7 @@ use vectors::bytes;
 
 // Which stage a file records.
 #[derive(Clone, Copy)]
-pub enum Stage {
+pub(crate) enum Stage {
     // The number of data bytes, the data, their twenty parity bytes.
     Parity,
     // A place in the field, a packet, its row.
@@ -19,13 +19,13 @@ pub enum Stage {
 
 // How many lines agree, and how many do not.
 #[derive(Clone, Copy)]
-pub struct Tally {
-    pub equal: usize,
-    pub different: usize,
+pub(crate) struct Tally {
+    pub(crate) equal: usize,
+    pub(crate) different: usize,
 }
 
 // Compares the lines of a text, headings that start with # apart; the number of the first malformed line, from 1, where there is one.
-pub fn compare(heap: Global, stage: Stage, text: &str) -> Result<Tally, usize> {
+pub(crate) fn compare(heap: Global, stage: Stage, text: &str) -> Result<Tally, usize> {
     let mut tally = Tally {
         equal: 0,
         different: 0,
