@@ -1,17 +1,24 @@
 // Times the library's calls on pseudo-random rows, and prints the best of several turns to standard error.
+ghost use Prim.Native.Nat.{_<_};
+use delay::Delay;
+use delay::Direction;
 use randomizer::code_packet;
 use randomizer::combine;
 use reed_solomon::complete;
 use reed_solomon::is_code;
+use refusal::Refusal;
 use std::io;
 use std::time::Instant;
 
-// Rows that are worked on in one turn, and turns of which the best counts.
+// Rows that are worked on, rounds over them in one turn, and turns of which the best counts.
 const ROWS: usize = 64;
 
 const ROUNDS: usize = 200;
 
 const TURNS: usize = 9;
+
+// Calls in one turn.
+const CALLS: u32 = 12800;
 
 // A call that is timed.
 #[derive(Clone, Copy)]
@@ -20,6 +27,7 @@ enum Work {
     IsCode,
     Combine,
     CodePacket,
+    Interleave,
 }
 
 // The next number of an xorshift sequence.
@@ -38,44 +46,80 @@ fn fill(rows: &mut [u8]) {
     }
 }
 
-// Does the work once on the row of one packet; whether it was accepted.
-fn once(work: Work, place: usize, packet: &[u8; 188], row: &mut [u8; 207]) -> bool {
-    match work {
-        Work::Complete => complete(row).is_ok(),
-        Work::IsCode => is_code(row),
-        Work::Combine => combine(&packet[1..188], place, &mut row[0..187]).is_ok(),
-        Work::CodePacket => code_packet(packet, place, row).is_ok(),
-    }
+// Combines a packet's bytes into a row's memory; whether it was accepted.
+fn combined(packet: &[u8; 188], place: usize, row: &mut [u8; 207]) -> bool {
+    combine(&packet[1..188], place, &mut row[0..187]).is_ok()
 }
 
-// Does the work on every row, so many rounds; how often it was accepted.
-fn rounds(work: Work, packet: &[u8; 188], rows: &mut [[u8; 207]; 64]) -> u32 {
-    let mut accepted = 0u32;
-    for _ in 0..ROUNDS {
+// What the calls work on.
+#[derive(Drop)]
+struct Bench {
+    packet: [u8; 188],
+    rows: [[u8; 207]; 64],
+    memory: Delay,
+    cells: [u8; 5304],
+    passing: [u8; 207],
+}
+
+impl Bench {
+    // A bench with code rows.
+    fn new() -> Result<Bench, Refusal> {
+        let mut packet = [0u8; 188];
+        let mut rows = [[0u8; 207]; 64];
+        fill(&mut packet);
         for i in 0..ROWS {
-            if once(work, i, packet, &mut rows[i]) {
-                accepted = accepted.saturating_add(1);
-            }
+            fill(&mut rows[i]);
+            complete(&mut rows[i])?;
+        }
+        let memory = Delay::new(52, 4, Direction::Interleave)?;
+        Ok(Bench {
+            packet,
+            rows,
+            memory,
+            cells: [0; 5304],
+            passing: [0; 207],
+        })
+    }
+
+    // Does the work once on row number i; whether it was accepted.
+    fn once(&mut self, work: Work, i: usize) -> bool
+        requires { ⌜ i < 64 ⌝ }
+    {
+        let packet = self.packet;
+        match work {
+            Work::Complete => complete(&mut self.rows[i]).is_ok(),
+            Work::IsCode => is_code(&self.rows[i]),
+            Work::Combine => combined(&packet, i, &mut self.rows[i]),
+            Work::CodePacket => code_packet(&packet, i, &mut self.rows[i]).is_ok(),
+            Work::Interleave => self.memory.pass(&mut self.cells, &mut self.passing).is_ok(),
         }
     }
-    accepted
+
+    // Does the work on every row, so many rounds; how often it was accepted.
+    fn rounds(&mut self, work: Work) -> u32 {
+        let mut accepted = 0u32;
+        for _ in 0..ROUNDS {
+            for i in 0..ROWS {
+                if self.once(work, i) {
+                    accepted = accepted.saturating_add(1);
+                }
+            }
+        }
+        accepted
+    }
 }
 
-// The nanoseconds of one turn's calls, on average, in the best turn.
+// The nanoseconds of the calls of the best turn; the greatest number where a call was refused.
 fn best(rt: &LibcRuntime, work: Work) -> io::Result<u64> {
-    let mut packet = [0u8; 188];
-    let mut rows = [[0u8; 207]; 64];
-    fill(&mut packet);
-    for i in 0..ROWS {
-        fill(&mut rows[i]);
-        let _ = complete(&mut rows[i]);
-    }
     let mut least = u64::MAX;
+    let Ok(mut bench) = Bench::new() else {
+        return Ok(least);
+    };
     for _ in 0..TURNS {
         let start = Instant::now(rt)?;
-        let accepted = rounds(work, &packet, &mut rows);
+        let accepted = bench.rounds(work);
         let took = start.elapsed(rt)?;
-        if accepted == 12800 {
+        if accepted == CALLS {
             let ns = took.as_secs()
                 .saturating_mul(1_000_000_000)
                 .saturating_add(u64::from(took.subsec_nanos()));
@@ -88,7 +132,7 @@ fn best(rt: &LibcRuntime, work: Work) -> io::Result<u64> {
 // Times one call and prints it.
 fn report(rt: &LibcRuntime, name: &str, work: Work) -> io::Result<()> {
     let all = best(rt, work)?;
-    let each = all / 12800;
+    let each = all / u64::from(CALLS);
     let rate = 12_800_000_000_000 / all.max(1);
     eprintln!(rt, "{name} {each} ns, {rate} a second")
 }
@@ -97,5 +141,6 @@ fn main(rt: LibcRuntime) -> io::Result<()> {
     report(&rt, "complete", Work::Complete)?;
     report(&rt, "is_code", Work::IsCode)?;
     report(&rt, "combine", Work::Combine)?;
-    report(&rt, "code_packet", Work::CodePacket)
+    report(&rt, "code_packet", Work::CodePacket)?;
+    report(&rt, "interleave a row", Work::Interleave)
 }

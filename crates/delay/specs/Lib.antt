@@ -1,0 +1,5 @@
+pub mod Ring
+pub mod Sizes
+pub mod Branches
+pub mod State
+pub mod Laws
