@@ -7,6 +7,10 @@ ghost use Rattle.refusal.specs.Numbers.{refusal-number};
 pub enum Refusal {
     // A memory or an input has another length than the call needs.
     WrongLength,
+    // A symbol is none of the eight levels.
+    NotALevel,
+    // The last four bits of the sync data are not zero.
+    SyncTailNotZero,
 }
 
 impl Refusal {
@@ -16,6 +20,8 @@ impl Refusal {
     {
         match self {
             Refusal::WrongLength => 1,
+            Refusal::NotALevel => 7,
+            Refusal::SyncTailNotZero => 11,
         }
     }
 }

@@ -1,0 +1,4 @@
+pub mod Pn
+pub mod Segment
+pub mod Report
+pub mod Laws
