@@ -10,6 +10,7 @@ use Rattle.std.specs.declared.result.Result.the-variants.{Ok, Err}
 use Rattle.refusal.specs.declared.Refusal.{Refusal}
 use Rattle.refusal.specs.declared.Refusal.the-variants.{WrongLength}
 use Rattle.rows.specs.Code.{Bytes, CodeRow}
+use Rattle.rows.specs.Parity.{remainder}
 
 -- a row of n bytes with p parity bytes has at least one byte more, and at most 255
 abbrev pub complete-answer : ℕ → ℕ → Result (Unit {0}) Refusal
@@ -28,3 +29,7 @@ pub record Codeword (p : ℕ) (row : List ℕ) : Type 0 where
   pub long : p < length row
   pub short : length row ≤ 255
   pub code : CodeRow p row
+
+-- the remainder of a row that has at least one byte before its p parity bytes, and at most 255
+abbrev pub remainder-answer : ℕ → List ℕ → Result (List ℕ) Refusal
+remainder-answer p row = cond (ltb (length row) (p + 1)) (Err WrongLength) (cond (ltb 255 (length row)) (Err WrongLength) (Ok (remainder p row)))

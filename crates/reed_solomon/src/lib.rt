@@ -3,7 +3,7 @@ mod multiples;
 mod register;
 mod remainders;
 
-ghost use Rattle.reed_solomon.specs.Complete.{complete-answer, front, OnlyCodeRow, Codeword};
+ghost use Rattle.reed_solomon.specs.Complete.{complete-answer, front, OnlyCodeRow, Codeword, remainder-answer};
 ghost use Rattle.rows.specs.Code.{CodeRow, OnlyCompletion};
 ghost use Rattle.rows.specs.Parity.{coded};
 ghost use Rattle.std.specs.Orderings.{Decides};
@@ -12,7 +12,7 @@ ghost use lib.ListN.{length};
 ghost use mathlib.Core.Path.{_≡_};
 use refusal::Refusal;
 use register::divided;
-use remainders::blank;
+pub use remainders::blank;
 use remainders::remainder;
 
 // Writes the last 20 bytes so that the row, of 21 to 255 bytes, is a code row; the bytes before them stay.
@@ -42,6 +42,17 @@ pub fn is_code(row: &[u8]) -> bool
     blank(&remainder(row))
 }
 
+// What division of the row, of 21 to 255 bytes, by the generator leaves: it has the row's values at the first 20 powers of 2.
+// A row of another length is refused.
+pub fn remainder_of(row: &[u8]) -> Result<[u8; 20], Refusal>
+    ensures { λ r. ⌜ r ≡ remainder-answer 20 (now (row .entry)) ⌝ }
+{
+    if row.len() < 21 || row.len() > 255 {
+        return Err(Refusal::WrongLength);
+    }
+    Ok(remainder(row))
+}
+
 // For every number of parity bytes p: two code rows of one length up to 255 that agree before the last p bytes are equal.
 pub fn only_completion_stands()
     ensures { λ _. ⌜ OnlyCompletion 255 ⌝ }
@@ -62,10 +73,21 @@ mod tests {
         let mut row = [0u8; 21];
         row[0] = 0x47;
         complete(&mut row)?;
-        check_eq(row[0], 0x47)?;
         check_eq(
-            &row[1..11],
-            &[0x26, 0x69, 0x3c, 0x46, 0xd2, 0xd1, 0x8f, 0x37, 0x1c, 0xab],
+            &row[..11],
+            &[
+                0x47,
+                0x26,
+                0x69,
+                0x3c,
+                0x46,
+                0xd2,
+                0xd1,
+                0x8f,
+                0x37,
+                0x1c,
+                0xab,
+            ],
         )?;
         check_eq(
             &row[11..],
@@ -79,9 +101,9 @@ mod tests {
     fn wrong_lengths() -> Result<(), Fail> {
         let mut short = [7u8; 20];
         check_eq(complete(&mut short), Err(Refusal::WrongLength))?;
-        check_eq(&short[..], &[7; 20])?;
+        check_eq(short, [7u8; 20])?;
         let mut long = [7u8; 256];
         check_eq(complete(&mut long), Err(Refusal::WrongLength))?;
-        check_eq(&long[235..], &[7; 21])
+        check_eq(long, [7u8; 256])
     }
 }

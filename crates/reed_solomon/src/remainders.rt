@@ -21,7 +21,7 @@ pub(crate) fn remainder(row: &[u8]) -> [u8; 20]
 }
 
 // Whether all 20 bytes are 0.
-pub(crate) fn blank(bytes: &[u8; 20]) -> bool
+pub fn blank(bytes: &[u8; 20]) -> bool
     ensures { λ b. ⌜ Decides b (now (bytes .entry) ≡ replicate 20 0) ⌝ }
 {
     for k in 0..20 {

@@ -38,7 +38,7 @@ bytes-equal (x ∷ a) (y ∷ b) ha hb e =
     ap₂ (λ (n : ℕ) (l : List ℕ). n ∷ l) (toB-eq x y (ha 0) (hb 0) h) (bytes-equal a b (λ k. ha (suc k)) (λ k. hb (suc k)) t)
 
 -- bytes differ only where the numbers do
-apart-differing : (a b : List ℕ) → apart (bytes a) (bytes b) ≤ differing a b
+pub apart-differing : (a b : List ℕ) → apart (bytes a) (bytes b) ≤ differing a b
 unfolding M.far
 apart-differing [] b = zero-le
 apart-differing (x ∷ a) [] = zero-le

@@ -70,7 +70,7 @@ unfolding M.pow
 power-zero x = refl
 
 -- the sum of two exponents
-power-add : (x : Byte) (i j : ℕ) → power x (i + j) ≡ mul (power x i) (power x j)
+pub power-add : (x : Byte) (i j : ℕ) → power x (i + j) ≡ mul (power x i) (power x j)
 unfolding M.pow
 power-add x i zero = ap (power x) (add-zero i) ∙ sym (mul-one (power x i))
 power-add x i (suc j) = ap (power x) (add-suc i j) ∙ ap (λ (y : Byte). mul y x) (power-add x i j) ∙ laws .mul-assoc (power x i) (power x j) x
