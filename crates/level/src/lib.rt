@@ -15,16 +15,8 @@ impl Bits {
     pub fn level(self) -> i8
         ensures { λ r. ⌜ r ≡ level-of self ⌝ }
     {
-        match (self.z2, self.z1, self.z0) {
-            (false, false, false) => -7,
-            (false, false, true) => -5,
-            (false, true, false) => -3,
-            (false, true, true) => -1,
-            (true, false, false) => 1,
-            (true, false, true) => 3,
-            (true, true, false) => 5,
-            (true, true, true) => 7,
-        }
+        let z = 4 * (self.z2 as u8) + 2 * (self.z1 as u8) + (self.z0 as u8);
+        (2 * z) as i8 - 7
     }
 
     // The bits of a level, and nothing where the number is none of the eight levels.
@@ -34,10 +26,11 @@ impl Bits {
         if !is_level(level) {
             return None;
         }
+        let z = (level + 7) as u8 / 2;
         Some(Bits {
-            z2: level > 0,
-            z1: level == -3 || level == -1 || level == 5 || level == 7,
-            z0: level == -5 || level == -1 || level == 3 || level == 7,
+            z2: z >= 4,
+            z1: z % 4 >= 2,
+            z0: z % 2 == 1,
         })
     }
 }

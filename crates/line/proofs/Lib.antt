@@ -1,0 +1,6 @@
+pub mod Segments
+pub mod Turns
+pub mod Bottoms
+pub mod Orders
+pub mod Blocks
+pub mod Layers

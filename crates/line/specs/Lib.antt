@@ -1,0 +1,9 @@
+pub mod Segment
+pub mod State
+pub mod Refusals
+pub mod Line
+pub mod Laws
+pub mod Slots
+pub mod Ring
+pub mod Bottom
+pub mod Layer

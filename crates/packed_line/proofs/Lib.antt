@@ -1,0 +1,3 @@
+mod Packs
+mod Groups
+mod Slots
