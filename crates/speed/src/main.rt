@@ -2,6 +2,8 @@
 ghost use Prim.Native.Nat.{_<_};
 use delay::Delay;
 use delay::Direction;
+use mender::Mending;
+use mender::mend;
 use randomizer::code_packet;
 use randomizer::combine;
 use reed_solomon::complete;
@@ -9,6 +11,9 @@ use reed_solomon::is_code;
 use refusal::Refusal;
 use std::io;
 use std::time::Instant;
+use trellis::Marked;
+use trellis::Reader;
+use trellis::Trellis;
 
 // Rows that are worked on, rounds over them in one turn, and turns of which the best counts.
 const ROWS: usize = 64;
@@ -28,6 +33,10 @@ enum Work {
     Combine,
     CodePacket,
     Interleave,
+    // Mending a row with this many wrong bytes, at most 32.
+    Mend(u8),
+    WriteSegment,
+    ReadSegment,
 }
 
 // The next number of an xorshift sequence.
@@ -51,6 +60,26 @@ fn combined(packet: &[u8; 188], place: usize, row: &mut [u8; 207]) -> bool {
     combine(&packet[1..188], place, &mut row[0..187]).is_ok()
 }
 
+// Alters so many bytes of a row; done twice the row is as before.
+fn damage(row: &mut [u8; 207], wrong: u8) {
+    for k in 0..wrong.min(32) {
+        row[6 * k as usize] ^= k + 1;
+    }
+}
+
+// Mends a damaged row, and undoes the damage where it is spoiled; whether it was accepted.
+fn mended(row: &mut [u8; 207], wrong: u8) -> bool {
+    damage(row, wrong);
+    match mend(row) {
+        Ok(Mending::Spoiled) => {
+            damage(row, wrong);
+            true
+        }
+        Ok(_) => true,
+        Err(_) => false,
+    }
+}
+
 // What the calls work on.
 #[derive(Drop)]
 struct Bench {
@@ -59,6 +88,11 @@ struct Bench {
     memory: Delay,
     cells: [u8; 5304],
     passing: [u8; 207],
+    trellis: Trellis,
+    quad: [u8; 828],
+    symbols: [i8; 828],
+    reader: Reader,
+    read: [Marked; 828],
 }
 
 impl Bench {
@@ -71,6 +105,8 @@ impl Bench {
             fill(&mut rows[i]);
             complete(&mut rows[i])?;
         }
+        let mut quad = [0u8; 828];
+        fill(&mut quad);
         let memory = Delay::new(52, 4, Direction::Interleave)?;
         Ok(Bench {
             packet,
@@ -78,6 +114,14 @@ impl Bench {
             memory,
             cells: [0; 5304],
             passing: [0; 207],
+            trellis: Trellis::new(),
+            quad,
+            symbols: [7; 828],
+            reader: Reader::new(),
+            read: [Marked {
+                byte: 0,
+                marked: false,
+            }; 828],
         })
     }
 
@@ -91,6 +135,9 @@ impl Bench {
             Work::IsCode => is_code(&self.rows[i]),
             Work::Combine => combined(&packet, i, &mut self.rows[i]),
             Work::CodePacket => code_packet(&packet, i, &mut self.rows[i]).is_ok(),
+            Work::Mend(wrong) => mended(&mut self.rows[i], wrong),
+            Work::WriteSegment => self.trellis.write(&self.quad, i, &mut self.symbols).is_ok(),
+            Work::ReadSegment => self.reader.read(&self.symbols, i, &mut self.read).is_ok(),
             Work::Interleave => self.memory.pass(&mut self.cells, &mut self.passing).is_ok(),
         }
     }
@@ -142,5 +189,12 @@ fn main(rt: LibcRuntime) -> io::Result<()> {
     report(&rt, "is_code", Work::IsCode)?;
     report(&rt, "combine", Work::Combine)?;
     report(&rt, "code_packet", Work::CodePacket)?;
-    report(&rt, "interleave a row", Work::Interleave)
+    report(&rt, "interleave a row", Work::Interleave)?;
+    report(&rt, "mend 0 wrong", Work::Mend(0))?;
+    report(&rt, "mend 1 wrong", Work::Mend(1))?;
+    report(&rt, "mend 5 wrong", Work::Mend(5))?;
+    report(&rt, "mend 10 wrong", Work::Mend(10))?;
+    report(&rt, "mend 11 wrong", Work::Mend(11))?;
+    report(&rt, "write 828 symbols", Work::WriteSegment)?;
+    report(&rt, "read 828 symbols", Work::ReadSegment)
 }
