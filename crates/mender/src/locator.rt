@@ -57,7 +57,7 @@ fn discrepancy_of(v: &[u8; 11], s: &[u8; 20], i: usize, j: usize) -> u8
 }
 
 // The inverse of a byte that is not 0.
-pub fn inverted(a: u8) -> u8
+pub(crate) fn inverted(a: u8) -> u8
     requires { ⌜ 0 < a ⌝ }
     ensures { λ r. ⌜ gf-mul a r ≡ 1 ⌝ }
 {
@@ -93,7 +93,7 @@ fn reduce(v: &mut [u8; 11], pivots: &mut Pivots, s: &[u8; 20], j: usize) -> bool
 }
 
 // A locator for the syndromes, of the lowest degree that the elimination finds.
-pub fn find(s: &[u8; 20]) -> Locator
+pub(crate) fn find(s: &[u8; 20]) -> Locator
     ensures long { λ r. ⌜ length (r .coefficients) ≡ 11 ⌝ }
     ensures locates { λ r. ⌜ Locates 10 (now (s .entry)) (r .coefficients) (r .degree) ⌝ }
 {

@@ -21,7 +21,7 @@ fn take_out(w: &mut [u8; 20], r: u8, m: usize)
 }
 
 // The magnitude at x: the other roots are taken out of the syndromes, and what is left is divided by the product of x + r over them.
-pub fn magnitude(s: &[u8; 20], roots: &Roots, x: u8) -> u8
+pub(crate) fn magnitude(s: &[u8; 20], roots: &Roots, x: u8) -> u8
     requires { ⌜ now roots .len ≤ 10 ⌝ ∗ ⌜ length (now roots .at) ≡ 10 ⌝ }
     ensures { λ r. ⌜ toB r ≡ magnitude-at (found (now (roots .entry) .at) (now (roots .entry) .len)) (syndrome (now (s .entry))) (toB x) ⌝ }
 {

@@ -72,7 +72,7 @@ fn all_values(v: &[u8; 11], d: usize, n: usize) -> [u8; 256]
 }
 
 // The roots of the polynomial of degree d among the places of a row of n bytes.
-pub fn find(v: &[u8; 11], d: usize, n: usize) -> Roots
+pub(crate) fn find(v: &[u8; 11], d: usize, n: usize) -> Roots
     requires { ⌜ d ≤ 10 ⌝ ∗ ⌜ 0 < n ⌝ ∗ ⌜ n ≤ 255 ⌝ ∗ ⌜ Monic d (now v) ⌝ }
     ensures long { λ r. ⌜ length (r .at) ≡ 10 ⌝ }
     ensures few { λ r. ⌜ r .len ≤ d ⌝ }

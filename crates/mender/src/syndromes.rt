@@ -18,7 +18,7 @@ fn fold(s: &mut [u8; 20], byte: u8)
 }
 
 // The values of the row at the first 20 powers of 2.
-pub fn syndromes(row: &[u8; 20]) -> [u8; 20]
+pub(crate) fn syndromes(row: &[u8; 20]) -> [u8; 20]
     ensures long { λ r. ⌜ length r ≡ 20 ⌝ }
     ensures values { λ r. ⌜ ((k : ℕ) → k < 20 → getD r k 0 ≡ row-value (now (row .entry)) (gf-power 2 k)) ⌝ }
 {

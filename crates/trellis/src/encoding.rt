@@ -43,7 +43,7 @@ impl Encoder {
 }
 
 // Whether a bit of a byte is set.
-pub fn is_set(byte: u8, place: usize) -> bool
+pub(crate) fn is_set(byte: u8, place: usize) -> bool
     requires { ⌜ place < 8 ⌝ }
     ensures { λ r. ⌜ r ≡ bit-of byte place ⌝ }
 {

@@ -13,7 +13,7 @@ pub struct Lane {
 
 impl Lane {
     // The byte of the quad whose bits the lane carries in a group of the quad.
-    pub fn byte(self, group: usize) -> usize
+    pub(crate) fn byte(self, group: usize) -> usize
         requires { ⌜ group < 276 ⌝ ∗ ⌜ self .place < 12 ⌝ }
         ensures at { λ r. ⌜ r ≡ lane-byte (self .first) (self .place) group ⌝ }
         ensures inside { λ r. ⌜ r < 828 ⌝ }
