@@ -1,4 +1,6 @@
 // A layer over any line that negates the symbols in its bursts on their way down.
+#![tactic(auto)]
+
 ghost use Rattle.std.specs.Prelude.{◌≡◌, ℕ, ◌+◌, ◌*◌, ◌<◌, ◌≤◌, true, false, length, pos, neg_ℤ, if◌then◌else◌, Some, None, MatchResult, slice_index_or};
 ghost use Rattle.level.specs.Level.{is_level, all_levels};
 ghost use Rattle.line.specs.State.{Arrived};

@@ -1,4 +1,6 @@
 // Data segments: four sync symbols, and behind them the symbols that the twelve encoders send.
+#![tactic(auto)]
+
 ghost use Rattle.std.specs.Prelude.{◌≡◌, length, MatchResult};
 ghost use Rattle.data_segments.specs.Written.{write_answer, SegmentWritten};
 

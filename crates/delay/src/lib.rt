@@ -1,4 +1,6 @@
 // The delay memory of interleavers: branches that delay by different lengths, and a plain delay, for every kind of element.
+#![tactic(auto)]
+
 ghost use Rattle.delay.specs.Laws.{ClearAt, PlainClearAt, LeavesAt, ReturnsAt, PlainSumAt, TelevisionPlaceAt, TelevisionWayAt, TelevisionSizes, RowDistance};
 
 pub mod branches;

@@ -1,4 +1,6 @@
 // The frame lock: which packets are taken, at which place of the frame, by the marks among their first bytes.
+#![tactic(auto)]
+
 ghost use Rattle.frame_lock.specs.Laws.{LockLaws};
 
 pub mod frame;

@@ -1,4 +1,6 @@
 // Arithmetic of the field of 256 made by X^8 + X^4 + X^3 + X^2 + 1: its elements are the bytes, and xor is the sum.
+#![tactic(auto)]
+
 ghost use Rattle.galois.specs.Field.{gf_mul, gf_power};
 ghost use Rattle.galois.specs.Laws.{FieldLaws};
 ghost use Rattle.std.specs.Prelude.{◌≡◌, MatchOption};

@@ -1,4 +1,6 @@
 // The eight levels of a symbol and the three bits that each stands for.
+#![tactic(auto)]
+
 ghost use Rattle.std.specs.Prelude.{◌≡◌};
 ghost use Rattle.level.specs.Level.{level_of, bits_of, is_level, all_levels, symbol_bits, LevelLaws};
 

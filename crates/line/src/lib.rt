@@ -1,4 +1,6 @@
 // What a line of segments means, what every line does at each call, and how it refuses.
+#![tactic(auto)]
+
 ghost use Rattle.std.specs.Prelude.{◌≡◌, length, MatchResult};
 ghost use Rattle.line.specs.State.{State, Sound, Arrived, Taken};
 ghost use Rattle.line.specs.Refusals.{fault_number, found_here, under_a_layer};

@@ -1,4 +1,6 @@
 // Mending a row of 21 to 255 bytes, of which the last 20 are parity bytes and at most ten are wrong.
+#![tactic(auto)]
+
 mod locator;
 mod magnitude;
 mod roots;

@@ -1,4 +1,6 @@
 // A line that holds eight symbols in three bytes.
+#![tactic(auto)]
+
 ghost use Rattle.std.specs.Prelude.{◌≡◌, ◌*◌, vec_len};
 ghost use Rattle.line.specs.Ring.{slots};
 

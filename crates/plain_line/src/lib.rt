@@ -1,4 +1,6 @@
 // A line that holds each symbol in a byte.
+#![tactic(auto)]
+
 ghost use Rattle.std.specs.Prelude.{◌≡◌, ◌*◌, true, map, vec_len};
 ghost use Rattle.line.specs.Segment.{all_segments};
 ghost use Rattle.line.specs.Ring.{slots};

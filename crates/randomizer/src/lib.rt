@@ -1,4 +1,6 @@
 // The randomizer of a field's packets: sixteen stages that give one byte a step, each combined with one byte of a packet.
+#![tactic(auto)]
+
 ghost use Rattle.std.specs.Prelude.{◌≡◌, ℕ, ◌<◌, ◌≤◌, length, MatchResult, bit_xor, slice_index};
 ghost use Rattle.randomizer.specs.Stages.{after, keys_from};
 ghost use Rattle.randomizer.specs.Packets.{state_at, randomized, combine_answer};

@@ -1,4 +1,6 @@
 // The receiver: segments off a line, packets and reports out.
+#![tactic(auto)]
+
 pub mod receiver;
 pub mod report;
 

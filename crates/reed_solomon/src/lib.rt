@@ -1,4 +1,6 @@
 // Rows of bytes with 20 parity bytes: completing a row, and asking whether a row is a code row.
+#![tactic(auto)]
+
 mod multiples;
 mod register;
 mod remainders;

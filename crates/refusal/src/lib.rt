@@ -1,4 +1,6 @@
 // Why a call of the library refuses, and the number that each reason has.
+#![tactic(auto)]
+
 ghost use Rattle.std.specs.Prelude.{◌≡◌};
 ghost use Rattle.refusal.specs.Numbers.{refusal_number};
 

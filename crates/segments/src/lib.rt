@@ -1,4 +1,6 @@
 // Data segments and field syncs: the sync symbols of both, and what a received field sync tells.
+#![tactic(auto)]
+
 ghost use Rattle.std.specs.Prelude.{◌≡◌, ◌+◌, ◌<◌, ◌≤◌, true, map, length, drop, MatchResult, OnOk, nat_eq, slice_index};
 ghost use Rattle.level.specs.Level.{all_levels};
 ghost use Rattle.segments.specs.Pn.{Recurrences};

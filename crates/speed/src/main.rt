@@ -1,4 +1,6 @@
 // Times the library's calls on pseudo-random rows, and prints the best of several turns to standard error.
+#![tactic(auto)]
+
 ghost use Rattle.std.specs.Prelude.{◌<◌};
 
 use delay::{Delay, Direction};

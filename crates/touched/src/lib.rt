@@ -1,1 +1,2 @@
 // What damaged symbols do to the bytes of rows. It has no code.
+#![tactic(auto)]

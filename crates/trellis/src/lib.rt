@@ -1,4 +1,6 @@
 // The twelve trellis encoders, the writer of data symbols, and the reader with its doubts.
+#![tactic(auto)]
+
 ghost use Rattle.trellis.specs.Places.{PlaceLaw};
 ghost use Rattle.trellis.specs.Laws.{ReadingLaws};
 

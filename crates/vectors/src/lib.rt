@@ -1,4 +1,6 @@
 // Reads recorded test vectors: bytes written as hexadecimal digits.
+#![tactic(auto)]
+
 ghost use Rattle.std.specs.Prelude.{◌≡◌};
 ghost use Rattle.vectors.specs.Hex.{digit_value, pair_value, Read};
 

@@ -1,4 +1,6 @@
 // Mends recorded rows and compares what comes of them with what was recorded.
+#![tactic(auto)]
+
 mod compare;
 mod recorded;
 

@@ -1,4 +1,6 @@
 // Codes a recorded stream of packets, interleaves its rows, and compares both with recorded ones.
+#![tactic(auto)]
+
 mod compare;
 mod interleaving;
 

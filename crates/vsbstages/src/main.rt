@@ -1,4 +1,6 @@
 // Compares completed rows, coded packets and the randomizer with recorded values, and prints how many are equal.
+#![tactic(auto)]
+
 mod agree;
 
 use agree::{Stage, Tally, compare};

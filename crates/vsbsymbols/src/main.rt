@@ -1,4 +1,6 @@
 // Compares the encoders, the reader and the numbering of data symbols with recorded values, and prints how many are equal.
+#![tactic(auto)]
+
 mod agree;
 
 use agree::{Stage, Tally, compare};

@@ -1,4 +1,6 @@
 // Compares the field syncs of crate segments with those of files that another program made, and prints how many are equal.
+#![tactic(auto)]
+
 mod figures;
 mod parse;
 

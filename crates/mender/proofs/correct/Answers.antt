@@ -24,11 +24,11 @@ loop-i-preserved c k h =
     let fixed : to_byte c.if-value-eq0.byte ≡ add (to_byte (get_or row i 0)) (correction_at cs rs s X) =
     elim c.if-value-eq0.branch [
       | then-value-eq0 w ↦
-          ap to_byte w.byte_is ∙ to_byte_xor (get_or row i 0) w.magnitude-byte.result
+          ap to_byte w.byte-is ∙ to_byte_xor (get_or row i 0) w.magnitude-byte.result
           ∙ ap (add (to_byte (get_or row i 0))) (w.magnitude-byte.ensures ∙ ap (magnitude_at rs s) (ap to_byte w.power.ensures ∙ to_byte_power 2 m)
           ∙ sym (M.fixer_hit Byte add mul nil one laws (to_byte 2) cs rs s X (here ∙ ap to_byte w.if-value-eq0.true)))
       | else-value-eq0 w ↦
-          ap to_byte w.byte_is ∙ sym (add_nil (to_byte (get_or row i 0)))
+          ap to_byte w.byte-is ∙ sym (add_nil (to_byte (get_or row i 0)))
           ∙ ap (add (to_byte (get_or row i 0))) (sym (M.fixer_miss Byte add mul nil one laws (to_byte 2) cs rs s X (λ q. w.if-value-eq0.false (to_byte_eq (get_or c.args.roots.now.values i 0) 0 (omega arith) (lit< tt) (sym here ∙ q)))))
     ] in
     elim (ℕ_discrete k i) [

@@ -4,7 +4,7 @@ use Rattle.rows.specs.Code.{Bytes, CodeRow, row_value, differing}
 use Rattle.rows.proofs.Coded.{left_over}
 use Rattle.correction.proofs.Corrected.{near_is_corrected}
 use Rattle.mender.proofs.search.Goals as goal
-use Rattle.mender.proofs.search.Goals.{else-wrong-le-MOST-via-then-wrong-le-MOST+else-is-code, else-wrong-le-MOST-via-else-wrong-le-MOST}
+use Rattle.mender.proofs.search.Goals.{else-wrong-le-MOST-via-then-wrong-le-MOST+else-is_code, else-wrong-le-MOST-via-else-wrong-le-MOST}
 
 pub returns-then-is_code : goal.returns-then-is_code
 returns-then-is_code c =

@@ -8,8 +8,8 @@ pub loop-k-init : goal.loop-k-init
 unfolding count
 loop-k-init c = refl
 
-pub overflow-add-count : goal.overflow-add-count
-overflow-add-count c =
+pub overflow_add-count : goal.overflow_add-count
+overflow_add-count c =
     record {
       fits =
           count_fits (λ k. differ (sign_at c.args.segment.now (c.args.from + k)) (eqb (get_or c.args.bits.now k 0) 49)) c.loop-k.k c.loop-k.count _ c.loop-k.invariant

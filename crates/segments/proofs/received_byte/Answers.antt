@@ -7,12 +7,12 @@ pub loop-k-init : goal.loop-k-init
 unfolding number
 loop-k-init c = refl
 
-pub overflow-mul-byte : goal.overflow-mul-byte
-overflow-mul-byte c =
+pub overflow_mul-byte : goal.overflow_mul-byte
+overflow_mul-byte c =
     let f = number_fits (λ k. received_bit c.args.segment.now (8 * c.args.n + k)) c.loop-k.k c.loop-k.byte false c.loop-k.invariant (omega arith) in omega arith
 
-pub overflow-add-byte : goal.overflow-add-byte
-overflow-add-byte c =
+pub overflow_add-byte : goal.overflow_add-byte
+overflow_add-byte c =
     record {
       fits = number_fits (λ k. received_bit c.args.segment.now (8 * c.args.n + k)) c.loop-k.k c.loop-k.byte c.received_bit.result c.loop-k.invariant (omega arith);
     }

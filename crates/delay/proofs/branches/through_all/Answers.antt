@@ -20,10 +20,10 @@ through-requires g c =
 pub loop-i-preserved : goal.loop-i-preserved
 loop-i-preserved g c =
     let l : c.loop-i.i < length c.loop-i.part = omega arith in
-    flowing_more c.args.shape c.args.first c.args.slots.now c.args.cells.now c.args.part.now c.loop-i.i c.loop-i.turn c.next_turn.result
+    flowing_more c.args.shape c.args.first c.args.slots.now c.args.cells.now c.args.part.now c.loop-i.i c.loop-i.turn c.next-turn.result
     c.loop-i.slots c.through.new.slots c.loop-i.cells c.through.new.cells c.loop-i.part c.index-part-i.result c.through.result
     c.requires.small c.requires.whole (omega arith) (get_or_read c.loop-i.part c.loop-i.i c.index-part-i.result l c.index-part-i.is) c.through.ensures
-    (search rules) c.through.auto.cells c.next_turn.ensures c.loop-i.invariant
+    (search rules) c.through.auto.cells c.next-turn.ensures c.loop-i.invariant
 
 pub returns : goal.returns
 returns g c = flowed c.args.shape c.args.first c.args.slots.now c.args.cells.now c.args.part.now c.loop-i.i c.loop-i.turn c.loop-i.slots c.loop-i.cells c.loop-i.part (omega arith) c.loop-i.invariant

@@ -11,6 +11,6 @@ returns c =
     let row : List ℕ = c.args.row.now in
     let m : ℕ = length row - 20 in
     let left : List ℕ = c.loop-k.left in
-    let first : c.bytes_parity.result ≡ parity 20 (take m row) = c.bytes_parity.ensures ∙ c.divided.ensures in
+    let first : c.bytes-parity.result ≡ parity 20 (take m row) = c.bytes-parity.ensures ∙ c.divided.ensures in
     ext_get_or 0 left (remainder 20 row) (c.loop-k.invariant.0 ∙ sym (length_remainder 20 row (omega arith)))
     (λ i h. c.loop-k.invariant.1 i (omega arith) ∙ ap₂ bit_xor (ap (λ (l : List ℕ). get_or l i 0) first) (sym (get_or-drop m row i 0)) ∙ sym (get_or_sum (parity 20 (take m row)) (drop m row) i))

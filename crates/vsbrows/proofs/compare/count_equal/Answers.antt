@@ -2,7 +2,7 @@ use Rattle.std.proofs.Common.{ℕ, ◌+◌, ◌-◌, ◌*◌, refl, zero-le, ari
 use Rattle.vsbrows.specs.Compared.{agreeing}
 use Rattle.vsbrows.proofs.Counting.{parts, counted}
 use Rattle.vsbrows.proofs.compare.count_equal.Goals as goal
-use Rattle.vsbrows.proofs.compare.count_equal.Goals.{then-row-agrees, else-row-agrees}
+use Rattle.vsbrows.proofs.compare.count_equal.Goals.{then-row_agrees, else-row_agrees}
 
 pub loop-t-init : goal.loop-t-init
 unfolding agreeing

@@ -13,15 +13,15 @@ returns-then-turn-self c =
     let e : (c.args.turn.branch + 1) % c.args.self.branches ≡ 0 = ap (λ (k : ℕ). k % c.args.self.branches) c.if-turn-self.true ∙ mod_self c.args.self.branches in
     c.start.ensures ∙ sym (ap (turn_of c.args.self) e)
 
-pub overflow-sub-size : goal.overflow-sub-size
-overflow-sub-size c =
+pub overflow_sub-size : goal.overflow_sub-size
+overflow_sub-size c =
     let f = step_fits c.args.self.branches c.args.self.step c.args.turn.branch (omega arith) in
     let k : c.args.turn.size ≡ sizes c.args.self c.args.turn.branch = ap (λ (u : Turn). u.size) c.requires.placed in
     let m : sizes c.args.self c.args.turn.branch ≡ size_of Deinterleave c.args.self.branches c.args.self.step c.args.turn.branch = ap (λ d. size_of d c.args.self.branches c.args.self.step c.args.turn.branch) c.in-Deinterleave.is in
     omega arith
 
-pub overflow-add-result-2 : goal.overflow-add-result-2
-overflow-add-result-2 c =
+pub overflow_add-result-2 : goal.overflow_add-result-2
+overflow_add-result-2 c =
     let w = turn_within c.args.self c.requires.small c.args.turn.branch c.requires.inside in
     let m = cells_few c.args.self c.requires.small in
     let g : c.args.turn.first ≡ (turn_of c.args.self c.args.turn.branch).first = ap (λ (u : Turn). u.first) c.requires.placed in

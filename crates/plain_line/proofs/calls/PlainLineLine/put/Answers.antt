@@ -10,13 +10,16 @@ use Rattle.plain_line.specs.Slot.{slot}
 use Rattle.plain_line.proofs.Plains.{written, put_levels}
 use Rattle.plain_line.proofs.calls.PlainLineLine.put.Goals as goal
 
-pub invariant-of-self : goal.invariant-of-self
-invariant-of-self c =
+pub invariant_of-self : goal.invariant_of-self
+invariant_of-self c =
     let l = c.args.self.now in
     let p = c.in-Ok.ensures in
     let g : Segment c.args.segment.now = record { long = omega arith; levels = sym c.if-not-are_levels.ensures } in
     let w = written l c.deref_mut.result.now c.store.new.memory c.args.segment.now c.in-Ok.at (omega arith) c.deref_mut.ensures.value c.store.ensures.here c.store.ensures.others in
-    (l.whole ∙ ap (λ (t : Slots). 832 * t.room) (sym p.after), (put_levels l (slots c.put.new.self) c.store.new.memory c.args.segment.now c.in-Ok.at p w g, tt))
+    record {
+      whole = l.whole ∙ ap (λ (t : Slots). 832 * t.room) (sym p.after);
+      levels = put_levels l (slots c.put.new.self) c.store.new.memory c.args.segment.now c.in-Ok.at p w g;
+    }
 
 pub returns-in-Ok : goal.returns-in-Ok
 returns-in-Ok c =

@@ -7,10 +7,10 @@ use Rattle.plain_line.specs.Slot.{slot}
 use Rattle.plain_line.proofs.Plains.{take_keeps}
 use Rattle.plain_line.proofs.calls.PlainLineLine.take.Goals as goal
 
-pub invariant-of-self : goal.invariant-of-self
-invariant-of-self c =
+pub invariant_of-self : goal.invariant_of-self
+invariant_of-self c =
     let k = take_keeps c.args.self.now c.take.new.self c.take.result c.take.ensures in
-    (k.whole, (k.levels, tt))
+    record { whole = k.whole; levels = k.levels }
 
 pub returns-in-Err : goal.returns-in-Err
 returns-in-Err c =
