@@ -104,7 +104,8 @@ fn within(bursts: &[Burst], place: u64) -> bool
 
 // The part of the segment whose first symbol has the place `first` that lies in a burst.
 fn part_of(burst: Burst, first: u64) -> Part
-    ensures order { (result.from ≤ result.to) × (result.to ≤ 832) }
+    ensures ordered { result.from ≤ result.to }
+    ensures inside { result.to ≤ 832 }
     ensures exact { (i : ℕ) → i < 832 → in_part result.from result.to i ≡ in_burst burst (first + i) }
 {
     let length = burst.length as u64;
@@ -147,7 +148,11 @@ fn opposite(level: i8) -> i8
 
 // Writes the opposite levels of a part of a segment.
 fn negate(segment: &[i8], part: Part, out: &mut [i8])
-    requires { (length segment.now ≡ 832) × ((all_levels segment.now ≡ true) × ((length out.old ≡ 832) × ((part.from ≤ part.to) × (part.to ≤ 832)))) }
+    requires segment_whole { length segment.now ≡ 832 }
+    requires levels { all_levels segment.now ≡ true }
+    requires out_whole { length out.old ≡ 832 }
+    requires ordered { part.from ≤ part.to }
+    requires inside { part.to ≤ 832 }
     ensures { (k : ℕ) → k < 832 → slice_index_or out.new k (pos 0) ≡ (if in_part part.from part.to k then neg_ℤ (slice_index_or segment.now k (pos 0)) else slice_index_or out.old k (pos 0)) }
 {
     for i in part.from..part.to {
@@ -157,7 +162,9 @@ fn negate(segment: &[i8], part: Part, out: &mut [i8])
 
 // Negates the symbols in the bursts, in a copy of a segment whose first symbol has the place `first`.
 fn alter(bursts: &[Burst], first: u64, segment: &[i8], copy: &mut [i8])
-    requires { (length segment.now ≡ 832) × ((all_levels segment.now ≡ true) × (copy.old ≡ segment.now)) }
+    requires whole { length segment.now ≡ 832 }
+    requires levels { all_levels segment.now ≡ true }
+    requires same { copy.old ≡ segment.now }
     ensures { copy.new ≡ altered bursts.now first segment.now }
 {
     for burst in bursts {

@@ -25,7 +25,8 @@ pub struct FrameLock {
 // The place after a place of the frame.
 fn following(place: u16) -> u16
     requires { place < 624 }
-    ensures { (result ≡ place_after place) × (result < 624) }
+    ensures value { result ≡ place_after place }
+    ensures inside { result < 624 }
 {
     if place + 1 == FRAME { 0 } else { place + 1 }
 }
@@ -33,7 +34,8 @@ fn following(place: u16) -> u16
 impl FrameLock {
     // A lock that waits, with no strays.
     pub fn new() -> FrameLock
-        ensures { (result.frame ≡ Frame.Waiting) × (result.strays ≡ 0) }
+        ensures waiting { result.frame ≡ Frame.Waiting }
+        ensures no_strays { result.strays ≡ 0 }
     {
         FrameLock {
             frame: Frame::Waiting,

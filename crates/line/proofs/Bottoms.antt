@@ -1,6 +1,7 @@
 -- What a put and a take of a slot are to a line at the bottom.
 use Rattle.std.proofs.Common.{◌≡◌, ℕ, ◌+◌, List, [], ◌∷◌, ◌++◌, map, ℤ, Some, None, Ok, Err, sym, refl, ap, ◌∙◌, arith}
-use Rattle.std.specs.List.{AllByRecursion as All}
+use Rattle.std.specs.List.{All}
+use Rattle.std.proofs.lemmas.List.Elements.{All-head, All-tail}
 use Rattle.std.proofs.lemmas.List.{map_push, length-map}
 use Rattle.line.specs.declared.LineFault.{LineFault}
 use Rattle.line.specs.declared.LineRefusal.{LineRefusal}
@@ -17,7 +18,7 @@ use Rattle.line.proofs.Turns.{from_slot_length}
 -- slots that a write elsewhere leaves as they were
 pub held_same : (held held' : ℕ → List ℤ) (k : ℕ) → ((i : ℕ) → (i ≡ k → ⊥) → held' i ≡ held i) → (ks : List ℕ) → All (λ j. j ≡ k → ⊥) ks → map held' ks ≡ map held ks
 held_same held held' k others [] a = refl
-held_same held held' k others (j ∷ ks) a = let e = others j a.0 in let f = held_same held held' k others ks a.1 in cc
+held_same held held' k others (j ∷ ks) a = let e = others j (All-head (λ i. i ≡ k → ⊥) j ks a) in let f = held_same held held' k others ks (All-tail (λ i. i ≡ k → ⊥) j ks a) in cc
 
 -- the waiting segments after a put
 pub put_waits : (held held' : ℕ → List ℤ) (s t : Slots) (k : ℕ) (f : List ℤ) → SlotPut s k t → held' k ≡ f → ((i : ℕ) → (i ≡ k → ⊥) → held' i ≡ held i) → map held' t.taken ≡ map held s.taken ++ f ∷ []

@@ -1,5 +1,6 @@
 -- Lists of segments, as facts and as tests.
 use Rattle.std.proofs.Common.{◌≡◌, true, List, [], ◌∷◌, ◌++◌, ℤ, arith}
+use Rattle.std.proofs.lemmas.List.Elements.{All-nil, All-cons}
 use Rattle.line.specs.Segment.{Segment, Segments, is_segment, all_segments}
 
 -- a segment from its test
@@ -12,8 +13,8 @@ segment_is g s = grind arith
 
 -- segments from their test
 pub segments_of : (gs : List (List ℤ)) → all_segments gs ≡ true → Segments gs
-segments_of [] e = tt
-segments_of (g ∷ gs) e = (segment_of g (grind arith), segments_of gs (grind arith))
+segments_of [] e = All-nil Segment
+segments_of (g ∷ gs) e = All-cons Segment g gs (segment_of g (grind arith)) (segments_of gs (grind arith))
 
 -- one more segment at the end
 pub segments_push : (gs : List (List ℤ)) (g : List ℤ) → all_segments gs ≡ true → Segment g → all_segments (gs ++ g ∷ []) ≡ true

@@ -1,7 +1,7 @@
 -- The slots from one on: how many they are, one more at the end, and all but the first.
 use Rattle.std.proofs.Common.{◌≡◌, ℕ, zero, suc, ◌+◌, ◌-◌, ◌^◌, ◌<◌, ◌≤◌, [], ◌∷◌, ◌++◌, length, sym, refl, ap, ◌∙◌, subst, add-one, arith, length-append}
-use Rattle.std.specs.List.{AllByRecursion as All}
-use Rattle.std.proofs.ByRecursion.{All-push}
+use Rattle.std.specs.List.{All}
+use Rattle.std.proofs.lemmas.List.Elements.{All-nil, All-push}
 use Rattle.line.specs.Slots.{SlotPut, SlotTaken, following, from_slot}
 
 -- how many slots
@@ -17,7 +17,7 @@ inside room h n a b = grind arith
 
 -- what holds of each slot of the first n
 each_slot : (P : ℕ → Type 0) (room h n : ℕ) → ((k : ℕ) → k < n → P (following room (h + k))) → All P (from_slot room h n)
-each_slot P room h zero f = tt
+each_slot P room h zero f = All-nil P
 each_slot P room h (suc n) f = All-push P (from_slot room h n) (following room (h + n)) (each_slot P room h n (λ k l. f k (omega arith))) (f n (omega arith))
 
 -- the next slot is none of those before it

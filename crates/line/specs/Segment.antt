@@ -1,6 +1,5 @@
 -- What a segment is.
-use Rattle.std.specs.Prelude.{◌≡◌, ℕ, Bool, true, false, cond, List, [], ◌∷◌, length, ℤ, ◌==◌}
-use Rattle.std.specs.List.{AllByRecursion as All}
+use Rattle.std.specs.Prelude.{◌≡◌, ℕ, Bool, true, false, cond, List, [], ◌∷◌, length, ℤ, ◌==◌, All}
 use Rattle.level.specs.Level.{all_levels}
 
 -- the symbols of a segment

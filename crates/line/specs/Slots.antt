@@ -1,6 +1,6 @@
 -- Slots of a memory that are taken in turn.
-use Rattle.std.specs.Prelude.{◌≡◌, ℕ, zero, suc, ◌+◌, ◌-◌, ◌*◌, ◌^◌, ◌<◌, Bool, false, cond, List, [], ◌∷◌, ◌++◌, length, Some, None, Option, ◌==◌, ◌≢◌, nat_le, nat_lt}
-use Rattle.std.specs.List.{between, AllByRecursion as All}
+use Rattle.std.specs.Prelude.{◌≡◌, ℕ, zero, suc, ◌+◌, ◌-◌, ◌*◌, ◌^◌, ◌<◌, Bool, false, cond, List, [], ◌∷◌, ◌++◌, length, Some, None, Option, ◌==◌, ◌≢◌, nat_le, nat_lt, All}
+use Rattle.std.specs.List.{between}
 use Rattle.line.specs.declared.LineFault.{LineFault}
 use Rattle.line.specs.declared.LineFault.TheVariants.{UsedUp, NoRoom, NothingWaits}
 

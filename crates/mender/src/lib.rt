@@ -40,8 +40,11 @@ pub enum Mending {
 
 // The row with the magnitude added at each root.
 fn correct(row: &[u8], candidate: &mut [u8], s: &[u8; 20], locator: &Locator, roots: &Roots)
-    requires sizes { (length candidate.old ≡ length row.now) × (length row.now ≤ 255) }
-    requires places { (roots.now.len ≤ 10) × ((length roots.now.at ≡ 10) × (length roots.now.values ≡ 256)) }
+    requires same_size { length candidate.old ≡ length row.now }
+    requires at_most_255 { length row.now ≤ 255 }
+    requires at_most_ten { roots.now.len ≤ 10 }
+    requires places { length roots.now.at ≡ 10 }
+    requires values_size { length roots.now.values ≡ 256 }
     requires values { Values (polynomial locator.now.coefficients locator.now.degree) (length row.now) roots.now.values }
     ensures { bytes candidate.new ≡ corrected (correction_at (polynomial locator.now.coefficients locator.now.degree) (found roots.now.at roots.now.len) (syndrome s.now)) (bytes row.now) }
 {
@@ -71,7 +74,9 @@ fn distance(a: &[u8], b: &[u8]) -> usize
 
 // Makes the candidate the only row that can be near the row; in how many bytes it differs, where it is a code row and near.
 fn search(row: &[u8], candidate: &mut [u8], left: &[u8; 20]) -> Option<u8>
-    requires sizes { (length candidate.old ≡ length row.now) × ((20 < length row.now) × (length row.now ≤ 255)) }
+    requires same_size { length candidate.old ≡ length row.now }
+    requires parity { 20 < length row.now }
+    requires at_most_255 { length row.now ≤ 255 }
     requires left { left.now ≡ remainder 20 row.now }
     ensures { Searched 20 row.now candidate.new result }
 {

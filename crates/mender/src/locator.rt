@@ -31,7 +31,8 @@ fn monomial(j: usize) -> [u8; 11]
 
 // Adds c times u to v, where the coefficients of u from m on are 0.
 fn add_multiple(v: &mut [u8; 11], c: u8, u: &[u8; 11], m: usize)
-    requires { (m ≤ 11) × (((k : ℕ) → m ≤ k → slice_index u.now k ≡ 0)) }
+    requires few { m ≤ 11 }
+    requires zero_behind { (k : ℕ) → m ≤ k → slice_index u.now k ≡ 0 }
     ensures long { length v.new ≡ 11 }
     ensures entries { (k : ℕ) → k < 11 → slice_index v.new k ≡ bit_xor (slice_index v.old k) (gf_mul c (slice_index u.now k)) }
 {
@@ -42,7 +43,8 @@ fn add_multiple(v: &mut [u8; 11], c: u8, u: &[u8; 11], m: usize)
 
 // What a polynomial of degree j leaves of equation i.
 fn discrepancy_of(v: &[u8; 11], s: &[u8; 20], i: usize, j: usize) -> u8
-    requires { (i < 10) × (j ≤ 10) }
+    requires equation { i < 10 }
+    requires vector { j ≤ 10 }
     ensures { result ≡ discrepancy (j + 1) v.now s.now i }
 {
     let mut sum = 0;
@@ -66,10 +68,13 @@ pub(crate) fn inverted(a: u8) -> u8
 // Makes v, of degree j, solve one equation after another by multiples of the pivots.
 // At the first that it fails and that has no pivot, v becomes the pivot, and the answer is false.
 fn reduce(v: &mut [u8; 11], pivots: &mut Pivots, s: &[u8; 20], j: usize) -> bool
-    requires degree { (j ≤ 10) × (Monic j v.old) }
-    requires sizes { (length pivots.old.polynomials ≡ 10) × (length pivots.old.inverses ≡ 10) }
+    requires degree { j ≤ 10 }
+    requires monic { Monic j v.old }
+    requires polynomials { length pivots.old.polynomials ≡ 10 }
+    requires inverses { length pivots.old.inverses ≡ 10 }
     requires eliminated { Eliminated 10 j s.now pivots.old.polynomials pivots.old.inverses }
-    ensures sizes { (length pivots.new.polynomials ≡ 10) × (length pivots.new.inverses ≡ 10) }
+    ensures polynomials { length pivots.new.polynomials ≡ 10 }
+    ensures inverses { length pivots.new.inverses ≡ 10 }
     ensures solved { result ≡ true → Locates 10 s.now v.new j }
     ensures failed { result ≡ false → Eliminated 10 (j + 1) s.now pivots.new.polynomials pivots.new.inverses }
 {

@@ -20,7 +20,8 @@ fn take_out(w: &mut [u8; 20], r: u8, m: usize)
 
 // The magnitude at x: the other roots are taken out of the syndromes, and what is left is divided by the product of x + r over them.
 pub(crate) fn magnitude(s: &[u8; 20], roots: &Roots, x: u8) -> u8
-    requires { (roots.now.len ≤ 10) × (length roots.now.at ≡ 10) }
+    requires at_most_ten { roots.now.len ≤ 10 }
+    requires places { length roots.now.at ≡ 10 }
     ensures { to_byte result ≡ magnitude_at (found roots.now.at roots.now.len) (syndrome s.now) (to_byte x) }
 {
     let mut w = *s;

@@ -16,7 +16,8 @@ pub struct Roots {
 
 // The terms of the polynomial of degree d at 2^m: coefficient j times the j-th power of 2^m.
 fn terms(v: &[u8; 11], d: usize, m: usize) -> [u8; 11]
-    requires { (d ≤ 10) × (m ≤ 255) }
+    requires degree { d ≤ 10 }
+    requires step { m ≤ 255 }
     ensures long { length result ≡ 11 }
     ensures are { (j : ℕ) → j < d + 1 → slice_index result j ≡ gf_mul (slice_index v.now j) (gf_power 2 (m * j % 255)) }
 {
@@ -51,7 +52,8 @@ fn next_values(e: &mut [u8; 11], d: usize) -> [u8; 4]
 
 // The values of the polynomial of degree d at the places of a row of n bytes, from the first byte's on.
 fn all_values(v: &[u8; 11], d: usize, n: usize) -> [u8; 256]
-    requires { (d ≤ 10) × (n ≤ 255) }
+    requires degree { d ≤ 10 }
+    requires places { n ≤ 255 }
     ensures long { length result ≡ 256 }
     ensures are { Values (polynomial v.now d) n result }
 {
@@ -70,11 +72,15 @@ fn all_values(v: &[u8; 11], d: usize, n: usize) -> [u8; 256]
 
 // The roots of the polynomial of degree d among the places of a row of n bytes.
 pub(crate) fn find(v: &[u8; 11], d: usize, n: usize) -> Roots
-    requires { (d ≤ 10) × ((0 < n) × ((n ≤ 255) × (Monic d v.now))) }
+    requires degree { d ≤ 10 }
+    requires some { 0 < n }
+    requires places { n ≤ 255 }
+    requires monic { Monic d v.now }
     ensures long { length result.at ≡ 10 }
     ensures few { result.len ≤ d }
     ensures are { found result.at result.len ≡ roots_of (polynomial v.now d) n }
-    ensures values { (length result.values ≡ 256) × (Values (polynomial v.now d) n result.values) }
+    ensures size { length result.values ≡ 256 }
+    ensures values { Values (polynomial v.now d) n result.values }
 {
     let mut at = [0u8; 10];
     let mut len = 0;

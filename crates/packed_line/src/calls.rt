@@ -15,7 +15,9 @@ use line::{Line, LineFault, LineRefusal, NoLine};
 
 // Packs a segment into a slot.
 fn store(memory: &mut [u8], at: usize, segment: &[i8])
-    requires { (312 * at + 312 ≤ length memory.old) × ((length segment.now ≡ 832) × (all_levels segment.now ≡ true)) }
+    requires inside { 312 * at + 312 ≤ length memory.old }
+    requires whole { length segment.now ≡ 832 }
+    requires levels { all_levels segment.now ≡ true }
     ensures here { packed_slot memory.new at ≡ segment.now }
     ensures others { (i : ℕ) → (i ≢ at) → packed_slot memory.new i ≡ packed_slot memory.old i }
 {
@@ -25,7 +27,8 @@ fn store(memory: &mut [u8], at: usize, segment: &[i8])
 
 // Unpacks the segment in a slot.
 fn load(memory: &[u8], at: usize, out: &mut [i8])
-    requires { (312 * at + 312 ≤ length memory.now) × (length out.old ≡ 832) }
+    requires inside { 312 * at + 312 ≤ length memory.now }
+    requires whole { length out.old ≡ 832 }
     ensures { out.new ≡ packed_slot memory.now at }
 {
     let from = 312 * at;

@@ -22,7 +22,8 @@ fn level_of(z: u32) -> i8
 
 // The 24 bits of eight symbols.
 fn gathered(symbols: &[i8]) -> u32
-    requires { (length symbols.now ≡ 8) × (all_levels symbols.now ≡ true) }
+    requires eight { length symbols.now ≡ 8 }
+    requires levels { all_levels symbols.now ≡ true }
     ensures value { eight_symbols result ≡ symbols.now }
     ensures small { result < 2 ^ 24 }
 {
@@ -54,7 +55,9 @@ fn spread(bits: u32, symbols: &mut [i8])
 
 // Packs a segment into a slot.
 pub(crate) fn pack(segment: &[i8], slot: &mut [u8])
-    requires { (length segment.now ≡ 832) × ((all_levels segment.now ≡ true) × (length slot.old ≡ 312)) }
+    requires segment_whole { length segment.now ≡ 832 }
+    requires levels { all_levels segment.now ≡ true }
+    requires slot_whole { length slot.old ≡ 312 }
     ensures { unpacked slot.new ≡ segment.now }
 {
     for i in 0..104 {
@@ -67,7 +70,8 @@ pub(crate) fn pack(segment: &[i8], slot: &mut [u8])
 
 // Unpacks a slot into a segment.
 pub(crate) fn unpack(slot: &[u8], segment: &mut [i8])
-    requires { (length slot.now ≡ 312) × (length segment.old ≡ 832) }
+    requires slot_whole { length slot.now ≡ 312 }
+    requires segment_whole { length segment.old ≡ 832 }
     ensures { segment.new ≡ unpacked slot.now }
 {
     for i in 0..104 {

@@ -13,7 +13,8 @@ use line::{Line, LineFault, LineRefusal, NoLine};
 
 // Writes a segment into a slot.
 fn store(memory: &mut [i8], at: usize, segment: &[i8])
-    requires { (832 * at + 832 ≤ length memory.old) × (length segment.now ≡ 832) }
+    requires inside { 832 * at + 832 ≤ length memory.old }
+    requires whole { length segment.now ≡ 832 }
     ensures here { slot memory.new at ≡ segment.now }
     ensures others { (i : ℕ) → (i ≢ at) → slot memory.new i ≡ slot memory.old i }
 {
@@ -23,7 +24,8 @@ fn store(memory: &mut [i8], at: usize, segment: &[i8])
 
 // Reads the segment in a slot.
 fn load(memory: &[i8], at: usize, out: &mut [i8])
-    requires { (832 * at + 832 ≤ length memory.now) × (length out.old ≡ 832) }
+    requires inside { 832 * at + 832 ≤ length memory.now }
+    requires whole { length out.old ≡ 832 }
     ensures { out.new ≡ slot memory.now at }
 {
     let from = 832 * at;

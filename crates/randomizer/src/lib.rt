@@ -54,7 +54,9 @@ fn fill_keys(first: u16, keys: &mut [u8])
 
 // Writes the bytes, each combined with the key of its index.
 fn xor_each(bytes: &[u8], keys: &[u8], out: &mut [u8])
-    requires { (length bytes.now ≡ 187) × ((length out.old ≡ 187) × (187 ≤ length keys.now)) }
+    requires bytes_whole { length bytes.now ≡ 187 }
+    requires out_whole { length out.old ≡ 187 }
+    requires keys { 187 ≤ length keys.now }
     ensures { (j : ℕ) → j < 187 → slice_index out.new j ≡ bit_xor (slice_index bytes.now j) (slice_index keys.now j) }
 {
     for j in 0..BYTES {
@@ -96,7 +98,7 @@ mod tests {
     fn first_keys(rt: HostRuntime) -> Result<(), Fail> {
         let mut out = [0u8; 187];
         combine(&[0; 187], 312, &mut out)?;
-        assert_eq!(rt; &out[0..4], &[0xc0, 0x6d, 0x3f, 0x99]);
+        assert_eq!(rt; &out[0..4], [0xc0, 0x6d, 0x3f, 0x99].as_slice());
         Ok(())
     }
 

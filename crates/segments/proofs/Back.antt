@@ -4,7 +4,7 @@ use lib.Signed.{lt_z}
 use Rattle.std.specs.List.{range_with_len}
 use Rattle.std.proofs.lemmas.List.{get_or_append_left}
 use Rattle.std.proofs.lemmas.List.FromFn.{get_or-map-range_with_len, length-map-range_with_len, fill_by_all}
-use Rattle.std.proofs.ByRecursion.{All-get_or}
+use Rattle.std.proofs.lemmas.List.Elements.{All-get_or}
 use Rattle.std.proofs.lemmas.Bool.{lt-ltb, le-ltb, cond-false, cases_lt, cases_eq}
 use Rattle.level.specs.Level.{bit}
 use Rattle.segments.specs.declared.FieldReport.{FieldReport}

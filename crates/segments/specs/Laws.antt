@@ -1,6 +1,5 @@
 -- A field sync that is received as it was sent tells what it was made of.
-use Rattle.std.specs.Prelude.{◌≡◌, ℕ, ◌%◌, ◌<◌, Bool, List, length, ℤ, slice_index_or}
-use Rattle.std.specs.List.{AllByRecursion as All}
+use Rattle.std.specs.Prelude.{◌≡◌, ℕ, ◌%◌, ◌<◌, Bool, List, length, ℤ, slice_index_or, All}
 use Rattle.segments.specs.Segment.{field_sync}
 use Rattle.segments.specs.Report.{report_of, received_sync}
 

@@ -48,7 +48,8 @@ pub fn check_sync(sync: &[u8]) -> Result<(), Refusal>
 
 // Bit k of the sync data.
 fn sync_bit(sync: &[u8], k: usize) -> bool
-    requires { (length sync.now ≡ 15) × (k < 116) }
+    requires fifteen { length sync.now ≡ 15 }
+    requires inside { k < 116 }
     ensures { result ≡ sync_bit sync.now k }
 {
     (sync[k / 8] >> (7 - k % 8)) % 2 == 1
@@ -56,7 +57,8 @@ fn sync_bit(sync: &[u8], k: usize) -> bool
 
 // The bit at a position of a field sync.
 fn field_bit(sync: &[u8], second: bool, position: usize) -> bool
-    requires { (length sync.now ≡ 15) × (position < 820) }
+    requires fifteen { length sync.now ≡ 15 }
+    requires inside { position < 820 }
     ensures { result ≡ field_bit sync.now second position }
 {
     match position {
@@ -78,7 +80,8 @@ fn bit_level(bit: bool) -> i8
 
 // Writes the 820 bits of a field sync by their levels.
 fn write_bits(sync: &[u8], second: bool, levels: &mut [i8])
-    requires { (length sync.now ≡ 15) × (length levels.old ≡ 820) }
+    requires fifteen { length sync.now ≡ 15 }
+    requires whole { length levels.old ≡ 820 }
     ensures { levels.new ≡ field_head sync.now second }
 {
     for position in 0..820 {
@@ -134,7 +137,8 @@ fn sign(segment: &[i8], position: usize) -> bool
 
 // How many signs from a position on differ from bits given as digits.
 fn count_differing(segment: &[i8], from: usize, bits: &[u8]) -> u16
-    requires { (length bits.now ≤ 511) × (from + length bits.now ≤ length segment.now) }
+    requires few { length bits.now ≤ 511 }
+    requires inside { from + length bits.now ≤ length segment.now }
     ensures { result ≡ differing (λ k. nat_eq (slice_index bits.now k) 49) segment.now from (length bits.now) }
 {
     let mut count = 0;
@@ -154,7 +158,8 @@ fn received_bit(segment: &[i8], k: usize) -> bool
 
 // Byte n of the sync data received.
 fn received_byte(segment: &[i8], n: usize) -> u8
-    requires { (length segment.now ≡ 832) × (n < 15) }
+    requires whole { length segment.now ≡ 832 }
+    requires inside { n < 15 }
     ensures { result ≡ received_byte segment.now n }
 {
     let mut byte = 0;
@@ -166,7 +171,8 @@ fn received_byte(segment: &[i8], n: usize) -> u8
 
 // Reads the sync data received.
 fn read_sync(segment: &[i8], sync: &mut [u8])
-    requires { (length segment.now ≡ 832) × (length sync.old ≡ 15) }
+    requires whole { length segment.now ≡ 832 }
+    requires fifteen { length sync.old ≡ 15 }
     ensures { sync.new ≡ received_sync segment.now }
 {
     for n in 0..15 {

@@ -13,7 +13,8 @@ pub struct Lane {
 impl Lane {
     // The byte of the quad whose bits the lane carries in a group of the quad.
     pub(crate) fn byte(self, group: usize) -> usize
-        requires { (group < 276) × (self.place < 12) }
+        requires group { group < 276 }
+        requires place { self.place < 12 }
         ensures at { result ≡ lane_byte self.first self.place group }
         ensures inside { result < 828 }
     {

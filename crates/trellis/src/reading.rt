@@ -97,8 +97,12 @@ impl Memory {
         g: usize,
         quad: &mut [Marked],
     ) -> usize
-        requires symbols_len { (length symbols.now ≡ 828) × ((all_levels symbols.now ≡ true) × (length quad.old ≡ 828)) }
-        requires first_bound { (lane.first ≤ 207) × ((lane.place < 12) × (g < 69)) }
+        requires symbols_whole { length symbols.now ≡ 828 }
+        requires levels { all_levels symbols.now ≡ true }
+        requires quad_whole { length quad.old ≡ 828 }
+        requires first { lane.first ≤ 207 }
+        requires place { lane.place < 12 }
+        requires group { g < 69 }
         ensures { ReadsOn symbols.now lane.first lane.place undoubted g result quad.old quad.new self.old self.new }
     {
         let group = lane.first + g;
@@ -117,8 +121,11 @@ impl Memory {
 
     // Reads the encoder's 69 symbols of a data segment; the first ones, as many as `undoubted`, are not doubted.
     fn read_lane(&mut self, symbols: &[i8], lane: Lane, undoubted: usize, quad: &mut [Marked])
-        requires symbols_len { (length symbols.now ≡ 828) × ((all_levels symbols.now ≡ true) × (length quad.old ≡ 828)) }
-        requires first_bound { (lane.first ≤ 207) × (lane.place < 12) }
+        requires symbols_whole { length symbols.now ≡ 828 }
+        requires levels { all_levels symbols.now ≡ true }
+        requires quad_whole { length quad.old ≡ 828 }
+        requires first { lane.first ≤ 207 }
+        requires place { lane.place < 12 }
         ensures { ReadsLane symbols.now lane.first lane.place undoubted 69 self.old quad.old quad.new self.new }
     {
         let mut g = 0;
@@ -139,7 +146,8 @@ pub struct Reader {
 impl Reader {
     // A reader that has read nothing.
     pub fn new() -> Reader
-        ensures new { (result.memories ≡ replicate 12 new_memory) × (result.undoubted ≡ 2) }
+        ensures memories { result.memories ≡ replicate 12 new_memory }
+        ensures undoubted { result.undoubted ≡ 2 }
         ensures history { (levels : ℕ → ℤ) → ReaderAfter levels 0 result.memories result.undoubted }
     {
         Reader {
@@ -161,8 +169,12 @@ impl Reader {
         undoubted: usize,
         quad: &mut [Marked],
     )
-        requires e_bound { (e < 12) × ((lane.first ≤ 207) × (lane.place < 12)) }
-        requires symbols_len { (length symbols.now ≡ 828) × ((all_levels symbols.now ≡ true) × (length quad.old ≡ 828)) }
+        requires encoder { e < 12 }
+        requires first { lane.first ≤ 207 }
+        requires place { lane.place < 12 }
+        requires symbols_whole { length symbols.now ≡ 828 }
+        requires levels { all_levels symbols.now ≡ true }
+        requires quad_whole { length quad.old ≡ 828 }
         ensures { ReadsOne symbols.now lane.first lane.place undoubted e self.old.memories quad.old quad.new self.new.memories }
     {
         self.memories[e].read_lane(symbols, lane, undoubted, quad);

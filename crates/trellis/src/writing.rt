@@ -10,7 +10,8 @@ use refusal::Refusal;
 impl Encoder {
     // Sends a pair of a byte's bits, pair 0 being the highest, to a place of the symbols.
     fn write_pair(&mut self, byte: u8, pair: usize, place: usize, out: &mut [i8])
-        requires { (pair < 4) × (place < length out.old) }
+        requires pair { pair < 4 }
+        requires inside { place < length out.old }
         ensures { PairWritten byte pair place out.old out.new self.old self.new }
     {
         let x2 = is_set(byte, 7 - 2 * pair);
@@ -20,7 +21,11 @@ impl Encoder {
 
     // Writes a lane's next symbol, and its next four where they carry a whole byte; the answer is the number of the symbol after them.
     fn write_next(&mut self, quad: &[u8], lane: Lane, g: usize, out: &mut [i8]) -> usize
-        requires { (length quad.now ≡ 828) × ((length out.old ≡ 828) × ((lane.first ≤ 207) × ((lane.place < 12) × (g < 69)))) }
+        requires quad_whole { length quad.now ≡ 828 }
+        requires out_whole { length out.old ≡ 828 }
+        requires first { lane.first ≤ 207 }
+        requires place { lane.place < 12 }
+        requires group { g < 69 }
         ensures { WritesOn quad.now lane.first lane.place g result out.old out.new self.old self.new }
     {
         let group = lane.first + g;
@@ -39,7 +44,10 @@ impl Encoder {
 
     // Writes the encoder's 69 symbols of a data segment.
     fn write_lane(&mut self, quad: &[u8], lane: Lane, out: &mut [i8])
-        requires { (length quad.now ≡ 828) × ((length out.old ≡ 828) × ((lane.first ≤ 207) × (lane.place < 12))) }
+        requires quad_whole { length quad.now ≡ 828 }
+        requires out_whole { length out.old ≡ 828 }
+        requires first { lane.first ≤ 207 }
+        requires place { lane.place < 12 }
         ensures { WritesLane quad.now lane.first lane.place 69 self.old out.old out.new self.new }
     {
         let mut g = 0;
@@ -67,7 +75,11 @@ impl Trellis {
 
     // Writes the symbols of one encoder in a data segment.
     fn write_one(&mut self, e: usize, quad: &[u8], lane: Lane, out: &mut [i8])
-        requires { (e < 12) × ((length quad.now ≡ 828) × ((length out.old ≡ 828) × ((lane.first ≤ 207) × (lane.place < 12)))) }
+        requires encoder { e < 12 }
+        requires quad_whole { length quad.now ≡ 828 }
+        requires out_whole { length out.old ≡ 828 }
+        requires first { lane.first ≤ 207 }
+        requires place { lane.place < 12 }
         ensures { WritesOne quad.now lane.first lane.place e self.old.encoders out.old out.new self.new.encoders }
     {
         self.encoders[e].write_lane(quad, lane, out);

@@ -76,7 +76,7 @@ mod tests {
     #[test]
     fn digits_are_read_two_by_two(rt: HostRuntime) -> Result<(), Fail> {
         let read = bytes(rt.alloc(), b"47b8")?;
-        assert_eq!(rt; read.as_slice(), &[0x47, 0xb8]);
+        assert_eq!(rt; read.as_slice(), [0x47, 0xb8].as_slice());
         Ok(())
     }
 

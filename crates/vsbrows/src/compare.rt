@@ -39,8 +39,10 @@ fn row_agrees(packet: &[u8], place: usize, recorded: &[u8]) -> bool
 
 // How many of the first `count` packets are coded to their recorded rows.
 fn count_equal(packets: &[u8], rows: &[u8], count: usize) -> usize
-    requires { (188 * count ≤ length packets.now) × (207 * count ≤ length rows.now) }
-    ensures { (result ≡ agreeing packets.now rows.now count) × (result ≤ count) }
+    requires packets { 188 * count ≤ length packets.now }
+    requires rows { 207 * count ≤ length rows.now }
+    ensures value { result ≡ agreeing packets.now rows.now count }
+    ensures most { result ≤ count }
 {
     let mut equal = 0;
     for t in 0..count {

@@ -5,11 +5,11 @@ use Rattle.bursts.proofs.alter.Goals as goal
 
 pub negate-requires : goal.negate-requires
 negate-requires c =
-    let same = ap length c.requires.1.1 in
-    (c.requires.0, (c.requires.1.0, (omega arith, c.part_of.ensures.order)))
+    let same = ap length c.requires.same in
+    record { segment_whole = c.requires.whole; levels = c.requires.levels; out_whole = omega arith; ordered = c.part_of.ensures.ordered; inside = c.part_of.ensures.inside }
 
 pub loop-burst-init : goal.loop-burst-init
-loop-burst-init c = λ i h. ap (λ (xs : List ℤ). cond (in_bursts c.args.bursts.now (c.args.first + i)) (neg_ℤ (get_or c.args.segment.now i (pos 0))) (get_or xs i (pos 0))) c.requires.1.1
+loop-burst-init c = λ i h. ap (λ (xs : List ℤ). cond (in_bursts c.args.bursts.now (c.args.first + i)) (neg_ℤ (get_or c.args.segment.now i (pos 0))) (get_or xs i (pos 0))) c.requires.same
 
 pub loop-burst-preserved : goal.loop-burst-preserved
 loop-burst-preserved c =
@@ -22,7 +22,7 @@ loop-burst-preserved c =
 
 pub returns : goal.returns
 returns c =
-    let same = ap length c.requires.1.1 in
+    let same = ap length c.requires.same in
     altered_from c.args.bursts.now c.args.first c.args.segment.now c.loop-burst.copy (omega arith)
     (λ i h. let q = c.args.first + i in
     let x = get_or c.args.segment.now i (pos 0) in

@@ -5,12 +5,12 @@ use Rattle.bursts.proofs.Alters.{negate_more, opposite_read}
 use Rattle.bursts.proofs.negate.Goals as goal
 
 pub opposite-requires : goal.opposite-requires
-opposite-requires c = level_read c.args.segment.now c.loop-i.i c.requires.1.0 (omega arith)
+opposite-requires c = level_read c.args.segment.now c.loop-i.i c.requires.levels (omega arith)
 
 pub loop-i-preserved : goal.loop-i-preserved
 loop-i-preserved c =
     negate_more c.loop-i.out c.args.segment.now c.args.out.now c.args.part.from c.loop-i.i _ (omega arith) (omega arith)
-    (opposite_read c.args.segment.now c.loop-i.i c.opposite.result c.requires.1.0 (omega arith) c.opposite.ensures) c.loop-i.invariant
+    (opposite_read c.args.segment.now c.loop-i.i c.opposite.result c.requires.levels (omega arith) c.opposite.ensures) c.loop-i.invariant
 
 pub returns : goal.returns
 returns c =

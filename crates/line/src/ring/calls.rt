@@ -8,7 +8,9 @@ use crate::LineFault;
 
 // The slot that lies `steps` behind a slot, in a ring of `room` slots.
 fn later(room: usize, slot: usize, steps: usize) -> usize
-    requires { (slot < room) × ((steps ≤ room) × (room ≤ 64)) }
+    requires slot { slot < room }
+    requires steps { steps ≤ room }
+    requires room { room ≤ 64 }
     ensures { result ≡ following room (slot + steps) }
 {
     if slot + steps < room {

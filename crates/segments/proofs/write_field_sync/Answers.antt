@@ -9,7 +9,7 @@ use Rattle.segments.proofs.write_field_sync.Goals as goal
 
 pub write_bits-requires : goal.write_bits-requires
 write_bits-requires c =
-    (fifteen c.args.sync.now c.in_ok-check_sync.field-0 c.in_ok-check_sync.ensures, length-take-le 820 c.args.last.now (omega arith))
+    record { fifteen = fifteen c.args.sync.now c.in_ok-check_sync.field-0 c.in_ok-check_sync.ensures; whole = length-take-le 820 c.args.last.now (omega arith) }
 
 pub returns : goal.returns
 returns c =

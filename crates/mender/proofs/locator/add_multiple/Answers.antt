@@ -13,7 +13,7 @@ returns c =
         | yes q ↦ c.loop-k.invariant.1 k q
         | no q ↦
             c.loop-k.invariant.2 k (omega arith)
-            ∙ sym (ap (λ (x : ℕ). bit_xor (get_or c.args.v.now k 0) (gf_mul c.args.c x)) (c.requires.1 k (omega arith))
+            ∙ sym (ap (λ (x : ℕ). bit_xor (get_or c.args.v.now k 0) (gf_mul c.args.c x)) (c.requires.zero_behind k (omega arith))
             ∙ ap (bit_xor (get_or c.args.v.now k 0)) (mul_zero_right c.args.c) ∙ xor_zero_r (get_or c.args.v.now k 0))
       ];
     }

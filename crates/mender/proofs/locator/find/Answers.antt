@@ -11,11 +11,11 @@ pub loop-j-init : goal.loop-j-init
 loop-j-init c = (refl, refl, eliminated_none 10 c.args.s.now _ (replicate 10 0) (zeros 10))
 
 pub loop-j-preserved : goal.loop-j-preserved
-loop-j-preserved c = (c.reduce.ensures.sizes.0, c.reduce.ensures.sizes.1, c.reduce.ensures.failed c.if-reduce.false)
+loop-j-preserved c = (c.reduce.ensures.polynomials, c.reduce.ensures.inverses, c.reduce.ensures.failed c.if-reduce.false)
 
 pub reduce-requires : goal.reduce-requires
 reduce-requires c =
-    record { degree = (omega arith, c.monomial-v.ensures); sizes = (c.loop-j.invariant.0, c.loop-j.invariant.1); eliminated = c.loop-j.invariant.2 }
+    record { degree = omega arith; monic = c.monomial-v.ensures; polynomials = c.loop-j.invariant.0; inverses = c.loop-j.invariant.1; eliminated = c.loop-j.invariant.2 }
 
 pub unreachable-requires : goal.unreachable-requires
 unreachable-requires c =

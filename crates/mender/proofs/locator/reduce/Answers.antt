@@ -8,17 +8,17 @@ pub loop-i-init : goal.loop-i-init
 loop-i-init c =
     record {
       long = c.told-v;
-      monic = c.requires.degree.1;
+      monic = c.requires.monic;
       solves = λ k h. absurd (not-suc-le-zero h);
-      places = c.requires.sizes.0;
-      beside = c.requires.sizes.1;
+      places = c.requires.polynomials;
+      beside = c.requires.inverses;
       before = c.requires.eliminated;
     }
 
 pub loop-i-preserved : goal.loop-i-preserved
 loop-i-preserved c =
     let R = c.loop-i.invariant in
-    let h : c.args.j ≤ 10 = c.requires.degree.0 in
+    let h : c.args.j ≤ 10 = c.requires.degree in
     elim c.if-d-ne0.branch [
       | then-d-ne0+else-by-eq0 w ↦
           reduced_moved 10 c.args.j (c.loop-i.i + 1) c.args.s.now w.add_multiple.new.v c.if-d-ne0.v c.loop-i.pivots.polynomials c.loop-i.pivots.inverses w.v-is
@@ -31,15 +31,16 @@ loop-i-preserved c =
     ]
 
 pub add_multiple-requires : goal.add_multiple-requires
-add_multiple-requires c = (omega arith, c.loop-i.invariant.before.lower c.loop-i.i c.if-by-eq0.false)
+add_multiple-requires c = record { few = omega arith; zero_behind = c.loop-i.invariant.before.lower c.loop-i.i c.if-by-eq0.false }
 
 pub returns-then-by-eq0 : goal.returns-then-by-eq0
 returns-then-by-eq0 c =
     let R = c.loop-i.invariant in
     record {
-      sizes = (length-set c.loop-i.pivots.polynomials c.loop-i.i c.loop-i.v ∙ R.places, length-set c.loop-i.pivots.inverses c.loop-i.i c.inverted.result ∙ R.beside);
+      polynomials = length-set c.loop-i.pivots.polynomials c.loop-i.i c.loop-i.v ∙ R.places;
+      inverses = length-set c.loop-i.pivots.inverses c.loop-i.i c.inverted.result ∙ R.beside;
       solved = λ e. let z : ◌≡◌ {A = ℕ} 0 1 = cc in absurd (omega arith);
-      failed = λ e. reduced_pivot R c.requires.degree.0 c.loop-i-test.true c.if-by-eq0.true c.inverted.result
+      failed = λ e. reduced_pivot R c.requires.degree c.loop-i-test.true c.if-by-eq0.true c.inverted.result
           (ap (λ (x : ℕ). gf_mul x c.inverted.result) (sym c.discrepancy_of-d.ensures) ∙ c.inverted.ensures);
     }
 
@@ -47,7 +48,8 @@ pub returns : goal.returns
 returns c =
     let R = c.loop-i.invariant in
     record {
-      sizes = (R.places, R.beside);
-      solved = λ e. reduced_all R c.requires.degree.0 c.loop-i-test.false;
+      polynomials = R.places;
+      inverses = R.beside;
+      solved = λ e. reduced_all R c.requires.degree c.loop-i-test.false;
       failed = λ e. let z : ◌≡◌ {A = ℕ} 0 1 = cc in absurd (omega arith);
     }

@@ -9,7 +9,7 @@ moved at s len x m w w' d d' e f P = rw (e, f) P
 
 pub loop-m-init : goal.loop-m-init
 loop-m-init c =
-    let room : c.args.roots.now.len ≤ length c.args.roots.now.at = let a = c.requires.0 in let b = c.requires.1 in omega arith in
+    let room : c.args.roots.now.len ≤ length c.args.roots.now.at = let a = c.requires.at_most_ten in let b = c.requires.places in omega arith in
     taken_start c.args.roots.now.at c.args.s.now c.args.roots.now.len c.args.x room
 
 pub loop-m-preserved : goal.loop-m-preserved
@@ -20,7 +20,7 @@ loop-m-preserved c =
     let x : ℕ = c.args.x in
     let m : ℕ = c.loop-m.m in
     let hm : m < len = c.loop-m-test.true in
-    let room : len ≤ length at = let a = c.requires.0 in let b = c.requires.1 in omega arith in
+    let room : len ≤ length at = let a = c.requires.at_most_ten in let b = c.requires.places in omega arith in
     elim c.if-r-x.branch [
       | then-r-x w ↦
           moved at s len x (m + 1) _ _ _ _ w.w-is w.product-is
@@ -32,14 +32,14 @@ loop-m-preserved c =
 
 pub inverted-requires : goal.inverted-requires
 inverted-requires c =
-    let room : c.args.roots.now.len ≤ length c.args.roots.now.at = let a = c.requires.0 in let b = c.requires.1 in omega arith in
+    let room : c.args.roots.now.len ≤ length c.args.roots.now.at = let a = c.requires.at_most_ten in let b = c.requires.places in omega arith in
     let ne : c.loop-m.product ≢ 0 =
     taken_ne c.args.roots.now.at c.args.s.now c.args.roots.now.len c.args.x room c.loop-m.m c.loop-m.product c.loop-m.w c.loop-m-test.false c.loop-m.invariant in
     omega arith
 
 pub returns : goal.returns
 returns c =
-    let room : c.args.roots.now.len ≤ length c.args.roots.now.at = let a = c.requires.0 in let b = c.requires.1 in omega arith in
+    let room : c.args.roots.now.len ≤ length c.args.roots.now.at = let a = c.requires.at_most_ten in let b = c.requires.places in omega arith in
     ap to_byte c.mul.ensures
     ∙ taken_all c.args.roots.now.at c.args.s.now c.args.roots.now.len c.args.x room c.loop-m.m c.loop-m.product c.inverted.result c.loop-m.w
     c.loop-m-test.false c.loop-m.invariant c.inverted.ensures

@@ -25,7 +25,7 @@ bounds-at-len c =
     let la : length c.loop-i.at ≡ 10 = I.0 in
     let room =
     (found_hit c.args.v.now c.args.d n i (get_or c.all_values-values.result i 0) hi (c.all_values-values.ensures.are i hi) c.loop-i.at c.loop-i.len (gf_power 2 (n - 1 - i)) (omega arith)
-    c.requires.1.1.0 (omega arith) refl c.requires.1.1.1 c.if-value-eq0.true I.1).0 in
+    c.requires.places (omega arith) refl c.requires.monic c.if-value-eq0.true I.1).0 in
     omega arith
 
 pub loop-i-preserved : goal.loop-i-preserved
@@ -46,7 +46,7 @@ loop-i-preserved c =
       | then-value-eq0 w ↦
           moved v d n (i + 1) _ _ _ _ w.at-is w.len-is (
             length-set at len w.power.result ∙ la,
-            (found_hit v d n i y hi there at len w.power.result (omega arith) c.requires.1.1.0 (omega arith) w.power.ensures c.requires.1.1.1 w.if-value-eq0.true I.1).1,
+            (found_hit v d n i y hi there at len w.power.result (omega arith) c.requires.places (omega arith) w.power.ensures c.requires.monic w.if-value-eq0.true I.1).1,
           )
       | else-value-eq0 w ↦ moved v d n (i + 1) _ _ _ _ w.at-is w.len-is (la, found_miss v d n i y hi there at len w.if-value-eq0.false (omega arith) I.1)
     ]
@@ -61,5 +61,6 @@ returns c =
       long = I.0;
       few = I.1.few;
       are = sym (append-nil (found c.loop-i.at c.loop-i.len)) ∙ ap (λ (k : ℕ). found c.loop-i.at c.loop-i.len ++ roots_of cs k) (sym e) ∙ I.1.are;
-      values = (c.all_values-values.ensures.long, c.all_values-values.ensures.are);
+      size = c.all_values-values.ensures.long;
+      values = c.all_values-values.ensures.are;
     }

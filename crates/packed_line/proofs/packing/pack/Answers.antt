@@ -5,7 +5,7 @@ use Rattle.packed_line.proofs.Groups.{group_length, group_levels, packed_more}
 use Rattle.packed_line.proofs.packing.pack.Goals as goal
 
 pub gathered-bits-requires : goal.gathered-bits-requires
-gathered-bits-requires c = (group_length c.args.segment.now c.loop-i.i (omega arith), group_levels c.args.segment.now c.loop-i.i c.requires.1.0)
+gathered-bits-requires c = record { eight = group_length c.args.segment.now c.loop-i.i (omega arith); levels = group_levels c.args.segment.now c.loop-i.i c.requires.levels }
 
 pub loop-i-preserved : goal.loop-i-preserved
 loop-i-preserved c = packed_more c.loop-i.slot c.args.segment.now c.loop-i.i c.gathered-bits.result (omega arith) c.gathered-bits.ensures.small c.gathered-bits.ensures.value c.loop-i.invariant

@@ -5,7 +5,7 @@ use Rattle.trellis.proofs.ReadLane.{plain, symbol_is_level, read_more, read_four
 use Rattle.trellis.proofs.reading.Memory.read_next.Goals as goal
 
 pub read_pair-requires : goal.read_pair-requires
-read_pair-requires c = let f : SFits w8 (get_or c.args.symbols.now (12 * c.args.g + c.args.lane.place) (pos 0)) = search rules in symbol_is_level c.args.symbols.now (12 * c.args.g + c.args.lane.place) c.requires.symbols_len.1.0 (omega arith) f
+read_pair-requires c = let f : SFits w8 (get_or c.args.symbols.now (12 * c.args.g + c.args.lane.place) (pos 0)) = search rules in symbol_is_level c.args.symbols.now (12 * c.args.g + c.args.lane.place) c.requires.levels (omega arith) f
 
 pub returns-then-group-ne0 : goal.returns-then-group-ne0
 returns-then-group-ne0 c =
@@ -20,16 +20,16 @@ returns-then-group-ne0 c =
     }
 
 pub read_pair-one-requires : goal.read_pair-one-requires
-read_pair-one-requires c = let f : SFits w8 (get_or c.args.symbols.now (12 * c.args.g + c.args.lane.place) (pos 0)) = search rules in symbol_is_level c.args.symbols.now (12 * c.args.g + c.args.lane.place) c.requires.symbols_len.1.0 (omega arith) f
+read_pair-one-requires c = let f : SFits w8 (get_or c.args.symbols.now (12 * c.args.g + c.args.lane.place) (pos 0)) = search rules in symbol_is_level c.args.symbols.now (12 * c.args.g + c.args.lane.place) c.requires.levels (omega arith) f
 
 pub read_pair-two-requires : goal.read_pair-two-requires
-read_pair-two-requires c = let f : SFits w8 (get_or c.args.symbols.now (12 * c.args.g + c.args.lane.place + 12) (pos 0)) = search rules in symbol_is_level c.args.symbols.now (12 * c.args.g + c.args.lane.place + 12) c.requires.symbols_len.1.0 (omega arith) f
+read_pair-two-requires c = let f : SFits w8 (get_or c.args.symbols.now (12 * c.args.g + c.args.lane.place + 12) (pos 0)) = search rules in symbol_is_level c.args.symbols.now (12 * c.args.g + c.args.lane.place + 12) c.requires.levels (omega arith) f
 
 pub read_pair-three-requires : goal.read_pair-three-requires
-read_pair-three-requires c = let f : SFits w8 (get_or c.args.symbols.now (12 * c.args.g + c.args.lane.place + 24) (pos 0)) = search rules in symbol_is_level c.args.symbols.now (12 * c.args.g + c.args.lane.place + 24) c.requires.symbols_len.1.0 (omega arith) f
+read_pair-three-requires c = let f : SFits w8 (get_or c.args.symbols.now (12 * c.args.g + c.args.lane.place + 24) (pos 0)) = search rules in symbol_is_level c.args.symbols.now (12 * c.args.g + c.args.lane.place + 24) c.requires.levels (omega arith) f
 
 pub read_pair-requires-2 : goal.read_pair-requires-2
-read_pair-requires-2 c = let f : SFits w8 (get_or c.args.symbols.now (12 * c.args.g + c.args.lane.place + 36) (pos 0)) = search rules in symbol_is_level c.args.symbols.now (12 * c.args.g + c.args.lane.place + 36) c.requires.symbols_len.1.0 (omega arith) f
+read_pair-requires-2 c = let f : SFits w8 (get_or c.args.symbols.now (12 * c.args.g + c.args.lane.place + 36) (pos 0)) = search rules in symbol_is_level c.args.symbols.now (12 * c.args.g + c.args.lane.place + 36) c.requires.levels (omega arith) f
 
 pub bounds-quad-u-2 : goal.bounds-quad-u-2
 bounds-quad-u-2 c = omega (arith, c.byte-u.ensures.inside)

@@ -7,6 +7,7 @@ pub returns : goal.returns
 unfolding memory_before
 returns c =
     record {
-      new = (refl, refl);
+      memories = refl;
+      undoubted = refl;
       history = λ levels. record { memories_are = λ e l. get_or-replicate 12 e new_memory new_memory l; undoubted_is = refl };
     }
