@@ -3,7 +3,7 @@ use Rattle.std.proofs.Common.{◌≡◌, ℕ, zero, suc, ◌+◌, ◌-◌, ◌*�
 use native.Mathlib.Nat.{sub-zero}
 use Rattle.tables.proofs.All.{agree, below}
 use Rattle.std.proofs.lemmas.Bool.{cases_order, cases_lt}
-use Rattle.delay.specs.Sizes.{size_of, first_of, memory_size}
+use Rattle.delay.specs.Sizes.{size_of, first_cell, memory_size}
 use Rattle.delay.specs.declared.branches.Direction.{Direction}
 use Rattle.delay.specs.declared.branches.Direction.TheVariants.{Interleave, Deinterleave}
 use Rattle.delay.specs.declared.branches.Shape.{Shape}
@@ -21,7 +21,7 @@ tri_half : (n : ℕ) → n < 256 → tri n ≡ n * (n - 1) / 2
 tri_half n l = agree tri (λ n. n * (n - 1) / 2) 256 tt n l
 
 -- The cells of a branch end where, or before, those of a later one begin.
-pub regions : (d : Direction) (b s i j : ℕ) → i < j → first_of d b s i + size_of d b s i ≤ first_of d b s j
+pub regions : (d : Direction) (b s i j : ℕ) → i < j → first_cell d b s i + size_of d b s i ≤ first_cell d b s j
 regions d b s i zero l = absurd (omega arith)
 regions d b s i (suc j) l =
     ⊎_elim
@@ -30,7 +30,7 @@ regions d b s i (suc j) l =
     (cases_lt i j)
 
 -- So the branches' cells lie apart.
-pub apart : (d : Direction) (b s : ℕ) → Apart b (first_of d b s) (size_of d b s)
+pub apart : (d : Direction) (b s : ℕ) → Apart b (first_cell d b s) (size_of d b s)
 unfolding Apart
 apart d b s i j p q n =
     ⊎_elim (λ (e : i ≡ j). absurd (n e))
@@ -38,11 +38,11 @@ apart d b s i j p q n =
     (cases_order i j)
 
 -- The first cell of a branch in each direction, and the end of the last.
-first_up : (b s j : ℕ) → first_of Interleave b s j ≡ s * tri j
+first_up : (b s j : ℕ) → first_cell Interleave b s j ≡ s * tri j
 first_up b s zero = sym (mul-zero s)
 first_up b s (suc j) = let e = first_up b s j in let d = mul-add s (tri j) j in omega arith
 
-first_down : (b s j : ℕ) → j ≤ b → first_of Deinterleave b s j + s * tri (b - j) ≡ s * tri b
+first_down : (b s j : ℕ) → j ≤ b → first_cell Deinterleave b s j + s * tri (b - j) ≡ s * tri b
 first_down b s zero l = rw (sub-zero b, zero-add (s * tri b))
 first_down b s (suc j) l =
     let e = first_down b s j (omega arith) in
@@ -53,7 +53,7 @@ first_down b s (suc j) l =
     let d = mul-add s (tri (b - 1 - j)) (b - 1 - j) in
     omega arith
 
-first_all : (d : Direction) (b s : ℕ) → first_of d b s b ≡ s * tri b
+first_all : (d : Direction) (b s : ℕ) → first_cell d b s b ≡ s * tri b
 first_all Interleave b s = first_up b s b
 first_all Deinterleave b s =
     let e = first_down b s b (omega arith) in
@@ -62,11 +62,11 @@ first_all Deinterleave b s =
     omega arith
 
 -- All the cells.
-pub together : (d : Direction) (b s : ℕ) → b ≤ 255 → first_of d b s b ≡ memory_size b s
+pub together : (d : Direction) (b s : ℕ) → b ≤ 255 → first_cell d b s b ≡ memory_size b s
 together d b s l = first_all d b s ∙ ap (λ (n : ℕ). s * n) (tri_half b (omega arith))
 
 -- A branch's cells are within all of them.
-pub within : (d : Direction) (b s j : ℕ) → b ≤ 255 → j < b → first_of d b s j + size_of d b s j ≤ memory_size b s
+pub within : (d : Direction) (b s j : ℕ) → b ≤ 255 → j < b → first_cell d b s j + size_of d b s j ≤ memory_size b s
 within d b s j l m = let r = regions d b s j b m in let t = together d b s l in omega arith
 
 -- Bounds for branches and steps up to 255.

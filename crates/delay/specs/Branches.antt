@@ -1,7 +1,7 @@
 -- The branches of one memory, by its shape.
 use Rattle.std.specs.Prelude.{◌≡◌, ℕ, ◌+◌, ◌%◌, ◌<◌, ◌≤◌, List, ◌++◌, length, slice_index, slice_index_or, slice_set}
 use Rattle.delay.specs.Ring.{delayed, Ring}
-use Rattle.delay.specs.Sizes.{size_of, first_of, memory_size}
+use Rattle.delay.specs.Sizes.{size_of, first_cell, memory_size}
 use Rattle.delay.specs.declared.branches.Shape.{Shape}
 use Rattle.delay.specs.declared.branches.Turn.{Turn}
 
@@ -11,7 +11,7 @@ sizes s j = size_of s.direction s.branches s.step j
 
 -- The first cell of branch j.
 abbrev pub firsts : Shape → ℕ → ℕ
-firsts s j = first_of s.direction s.branches s.step j
+firsts s j = first_cell s.direction s.branches s.step j
 
 -- The cells of all branches.
 abbrev pub cells_of : Shape → ℕ

@@ -15,9 +15,9 @@ interleaves Interleave = true
 interleaves Deinterleave = false
 
 -- The first cell of branch j: the branches' cells lie one after the other.
-abbrev pub first_of : Direction → ℕ → ℕ → ℕ → ℕ
-first_of direction b step zero = 0
-first_of direction b step (suc j) = first_of direction b step j + size_of direction b step j
+abbrev pub first_cell : Direction → ℕ → ℕ → ℕ → ℕ
+first_cell direction b step zero = 0
+first_cell direction b step (suc j) = first_cell direction b step j + size_of direction b step j
 
 -- The cells of all b branches.
 abbrev pub memory_size : ℕ → ℕ → ℕ

@@ -1,5 +1,5 @@
 -- Laws of eight symbols in three bytes.
-use Rattle.std.specs.Prelude.{◌≡◌, ℕ, zero, suc, ◌+◌, ◌*◌, ◌/◌, ◌%◌, ◌^◌, ◌<◌, true, List, [], ◌∷◌, ◌++◌, length, set, ℤ, pos, negsuc, slice_index_or, slice_set, refl}
+use Rattle.std.specs.Prelude.{◌≡◌, ℕ, zero, suc, ◌+◌, ◌*◌, ◌/◌, ◌%◌, ◌^◌, ◌<◌, true, List, [], ◌∷◌, ◌++◌, length, ℤ, pos, negsuc, slice_index_or, slice_set, refl}
 use Rattle.std.proofs.Common.{sym, ap, ◌∙◌, arith, to_z, of_z}
 use Rattle.level.specs.Level.{is_level, all_levels, z_of}
 use Rattle.std.specs.Int.{w8}
@@ -113,7 +113,7 @@ gathered_is xs a b c d e f g h long levels la lb lc ld le lf lg lh qa qb qc qd q
 
 -- eight elements written one after the other
 eight_set : (xs : List ℤ) (a b c d e f g h : ℤ) → length xs ≡ 8 → slice_set (slice_set (slice_set (slice_set (slice_set (slice_set (slice_set (slice_set xs 0 a) 1 b) 2 c) 3 d) 4 e) 5 f) 6 g) 7 h ≡ a ∷ b ∷ c ∷ d ∷ e ∷ f ∷ g ∷ h ∷ []
-eight_set xs a b c d e f g h long = ap (λ ys. set (slice_set (slice_set (slice_set (slice_set (slice_set (slice_set (slice_set ys 0 a) 1 b) 2 c) 3 d) 4 e) 5 f) 6 g) 7 h) (eight_list xs long)
+eight_set xs a b c d e f g h long = ap (λ ys. slice_set (slice_set (slice_set (slice_set (slice_set (slice_set (slice_set (slice_set ys 0 a) 1 b) 2 c) 3 d) 4 e) 5 f) 6 g) 7 h) (eight_list xs long)
 
 -- the eight symbols of 24 bits, written one after the other
 pub spread_is : (xs : List ℤ) (n : ℕ) (a b c d e f g h : ℤ) → length xs ≡ 8 →

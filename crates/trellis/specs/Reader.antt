@@ -14,8 +14,8 @@ use Rattle.trellis.specs.Writer.{lane_encoder, lane_byte}
 
 -- refused where a memory has another length than 828, and then where a symbol is none of the eight levels
 abbrev pub read_answer : List ℤ → ℕ → Result (Unit {0}) Refusal
-read_answer symbols quad-length =
-    cond (length symbols == 828) (cond (quad-length == 828) (cond (all_levels symbols) (Ok tt) (Err NotALevel)) (Err WrongLength)) (Err WrongLength)
+read_answer symbols quad_length =
+    cond (length symbols == 828) (cond (quad_length == 828) (cond (all_levels symbols) (Ok tt) (Err NotALevel)) (Err WrongLength)) (Err WrongLength)
 
 -- the memory of an encoder of which nothing is read
 abbrev pub new_memory : Memory

@@ -8,7 +8,7 @@ use Rattle.trellis.specs.Sent.{bit_of, new_encoder, sent_bits, stepped, encoder_
 
 -- refused where a memory has another length than 828
 abbrev pub write_answer : ℕ → ℕ → Result (Unit {0}) Refusal
-write_answer quad-length out-length = cond (quad-length == 828) (cond (out-length == 828) (Ok tt) (Err WrongLength)) (Err WrongLength)
+write_answer quad_length out_length = cond (quad_length == 828) (cond (out_length == 828) (Ok tt) (Err WrongLength)) (Err WrongLength)
 
 -- the encoders after n data segments of a stream
 abbrev pub EncodersAfter : (ℕ → ℕ) → ℕ → List Encoder → Type 0
