@@ -1,5 +1,5 @@
 -- The laws of the lock's table.
-use Rattle.std.proofs.Common.{◌≡◌, ℕ, suc, ◌+◌, ◌<◌, Bool, true, false, cond, ◌⊎◌, List, [], ◌∷◌, length, Ok, Err, sym, refl, ap, ◌∙◌, ⊎_elim, arith}
+use Rattle.std.proofs.Common.{◌≡◌, ℕ, suc, ◌+◌, ◌<◌, true, ◌⊎◌, List, [], ◌∷◌, length, Ok, Err, refl, ap, ◌∙◌, ⊎_elim, arith}
 use Rattle.refusal.specs.declared.Refusal.{Refusal}
 use Rattle.frame_lock.specs.declared.frame.Frame.{Frame}
 use Rattle.frame_lock.specs.declared.frame.Frame.TheVariants.{Waiting, Locked}

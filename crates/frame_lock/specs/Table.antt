@@ -1,5 +1,5 @@
 -- The table of the frame lock: what a packet's first byte does in each state.
-use Rattle.std.specs.Prelude.{◌≡◌, ℕ, ◌+◌, min, Bool, true, false, cond, Ok, Err, Result, ◌==◌, nat_lt}
+use Rattle.std.specs.Prelude.{ℕ, ◌+◌, min, Bool, true, cond, Ok, Err, Result, ◌==◌, nat_lt}
 use Rattle.refusal.specs.declared.Refusal.{Refusal}
 use Rattle.refusal.specs.declared.Refusal.TheVariants.{NoSyncByte, NoFrame}
 use Rattle.frame_lock.specs.declared.frame.Frame.{Frame}

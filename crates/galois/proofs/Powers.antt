@@ -1,10 +1,10 @@
 -- The powers of 2: the product adds their exponents, the first 255 are distinct, and every nonzero byte is one of them.
-use Rattle.std.proofs.Common.{◌≡◌, ℕ, zero, suc, ◌+◌, ◌-◌, ◌<◌, true, false, T, eqb, ltb, ◌⊎◌, List, get_or, sym, refl, ap, ◌∙◌, inl, inr, le_of_suc-le-suc, not-suc-le-zero, add-zero, add-suc, zero-add, suc-ne-zero, arith, lit<, ltb→lt}
+use Rattle.std.proofs.Common.{◌≡◌, ℕ, zero, suc, ◌+◌, ◌-◌, ◌<◌, true, false, T, eqb, ltb, ◌⊎◌, List, get_or, sym, refl, ap, ◌∙◌, inl, inr, le_of_suc-le-suc, not-suc-le-zero, add-zero, add-suc, zero-add, arith, lit<, ltb→lt}
 use native.Mathlib.Decide.{ℕ_discrete}
 use Rattle.std.specs.List.{range_with_len}
 use Rattle.std.proofs.lemmas.List.FromFn.{get_or-range_with_len}
 use Rattle.galois.specs.Field.{times_x, mul_bits, gf_mul, gf_power}
-use Rattle.galois.proofs.Product.{mul_lt, mul_zero_left, mul_one, mul_two, mul_comm, mul_assoc}
+use Rattle.galois.proofs.Product.{mul_lt, mul_zero_left, mul_one, mul_two, mul_assoc}
 use Rattle.tables.proofs.All.{below, agree}
 use Rattle.tables.proofs.Entries.{iterates, iterate, images, image}
 

@@ -1,5 +1,5 @@
 -- The field of 256, made by X^8 + X^4 + X^3 + X^2 + 1 (0x11d): a byte is a polynomial over GF(2), its bit i the coefficient of X^i.
-use Rattle.std.specs.Prelude.{ℕ, zero, suc, ◌+◌, ◌*◌, ◌/◌, ◌%◌, bit_xor}
+use Rattle.std.specs.Prelude.{ℕ, zero, suc, ◌*◌, ◌/◌, ◌%◌, bit_xor}
 
 -- times X: shift, and take X^8 + X^4 + X^3 + X^2 + 1 off where bit 7 was set
 unfoldable pub times_x : ℕ → ℕ

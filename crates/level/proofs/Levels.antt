@@ -1,8 +1,7 @@
 -- Laws of levels, by the eight cases.
-use Rattle.std.proofs.Common.{◌≡◌, ℕ, zero, suc, ◌+◌, ◌<◌, ◌≤◌, Bool, true, false, cond, List, [], ◌∷◌, ◌++◌, length, get_or, take, drop, ℤ, pos, negsuc, neg_ℤ, sym, refl, ap, ◌∙◌, add-one, arith, drop-cons, w8, SFits, to_z, of_z}
+use Rattle.std.proofs.Common.{◌≡◌, ℕ, zero, suc, ◌+◌, ◌<◌, ◌≤◌, Bool, true, false, cond, List, [], ◌∷◌, ◌++◌, length, get_or, take, drop, ℤ, pos, negsuc, neg_ℤ, refl, ap, ◌∙◌, add-one, arith, drop-cons, w8, SFits, to_z, of_z}
 use Rattle.std.proofs.lemmas.List.{drop_all}
 use Rattle.std.proofs.lemmas.Int.{to_z-of_z}
-use Rattle.level.specs.declared.Bits.{Bits}
 use Rattle.level.specs.Level.{level_of, bits_of, is_level, all_levels, LevelLaws}
 
 level_is : (a b c : Bool) → is_level (level_of (record { z2 = a; z1 = b; z0 = c })) ≡ true

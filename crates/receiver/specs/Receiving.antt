@@ -1,5 +1,5 @@
 -- The receiver and its memories by the levels received since its start.
-use Rattle.std.specs.Prelude.{◌≡◌, ℕ, ◌+◌, ◌-◌, ◌*◌, ◌/◌, ◌%◌, ◌<◌, min, cond, List, map, length, ℤ, nat_lt, slice_index_or}
+use Rattle.std.specs.Prelude.{◌≡◌, ℕ, ◌+◌, ◌-◌, ◌*◌, ◌%◌, ◌<◌, min, cond, List, map, ℤ, nat_lt, slice_index_or}
 use Rattle.std.specs.List.{range_with_len}
 use Rattle.delay.specs.State.{Came, PlainCame}
 use Rattle.trellis.specs.declared.reading.Marked.{Marked}

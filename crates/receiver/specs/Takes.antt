@@ -1,5 +1,5 @@
 -- What a take answers, and what it leaves.
-use Rattle.std.specs.Prelude.{◌≡◌, ℕ, ◌+◌, ◌-◌, ◌*◌, ◌/◌, ◌%◌, ◌<◌, ◌≤◌, Bool, true, false, cond, List, [], ◌∷◌, length, take, drop, replicate, ℤ, pos, Some, None, Ok, Err, Option, Result, MatchResult, ◌==◌, bit_or, nat_lt, slice_index_or}
+use Rattle.std.specs.Prelude.{◌≡◌, ℕ, ◌+◌, ◌-◌, ◌*◌, ◌<◌, ◌≤◌, Bool, false, cond, List, [], ◌∷◌, length, drop, replicate, ℤ, pos, Some, None, Ok, Err, Option, Result, MatchResult, ◌==◌, bit_or, nat_lt, slice_index_or}
 use Rattle.std.specs.List.{between}
 use Rattle.refusal.specs.declared.Refusal.{Refusal}
 use Rattle.refusal.specs.declared.Refusal.TheVariants.{WrongLength, TooFewWaiting}
@@ -9,7 +9,6 @@ use Rattle.mender.specs.Mended.{Mended}
 use Rattle.randomizer.specs.Row.{bytes_of}
 use Rattle.segments.specs.declared.FieldReport.{FieldReport}
 use Rattle.segments.specs.Report.{report_of, received_sync}
-use Rattle.trellis.specs.declared.reading.Marked.{Marked}
 use Rattle.trellis.specs.Reader.{SegmentOf, blank}
 use Rattle.line.specs.State.{State, with_waiting}
 use Rattle.stream.specs.Sent.{quad_segments}

@@ -5,7 +5,6 @@ use Rattle.refusal.specs.declared.Refusal.{Refusal}
 use Rattle.refusal.specs.declared.Refusal.TheVariants.{WrongLength, NoSyncByte, NoFrame, NumbersUsedUp, NotALevel, TooLittleRoom, TooFewWaiting, SyncTailNotZero}
 use Rattle.frame_lock.specs.declared.frame.Frame.{Frame}
 use Rattle.frame_lock.specs.declared.frame.Frame.TheVariants.{Waiting}
-use Rattle.frame_lock.specs.declared.lock.FrameLock.{FrameLock}
 use Rattle.frame_lock.specs.Table.{lock_answer, next_frame, next_strays}
 use Rattle.segments.specs.Segment.{sync_answer}
 use Rattle.line.specs.State.{State}

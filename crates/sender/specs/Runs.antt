@@ -1,5 +1,5 @@
 -- Calls on a sender since its start, and the segments they put.
-use Rattle.std.specs.Prelude.{◌≡◌, ℕ, ◌+◌, ◌/◌, ◌%◌, cond, List, [], ◌∷◌, ◌++◌, length, replicate, ℤ, Ok, Err, Result, ◌==◌, slice_index_or}
+use Rattle.std.specs.Prelude.{◌≡◌, ℕ, ◌+◌, ◌%◌, cond, List, [], ◌∷◌, ◌++◌, length, replicate, ℤ, Ok, Err, Result, ◌==◌, slice_index_or}
 use Rattle.refusal.specs.declared.Refusal.{Refusal}
 use Rattle.line.specs.State.{State}
 use Rattle.stream.specs.Carried.{AllPut}

@@ -1,5 +1,5 @@
 -- The sender and its memories by the packets taken since its start.
-use Rattle.std.specs.Prelude.{◌≡◌, ℕ, ◌+◌, ◌-◌, ◌*◌, ◌/◌, ◌%◌, ◌^◌, ◌<◌, min, cond, List, map, length, replicate, ℤ, pos, nat_lt, slice_index}
+use Rattle.std.specs.Prelude.{◌≡◌, ℕ, ◌+◌, ◌-◌, ◌*◌, ◌/◌, ◌%◌, ◌<◌, min, cond, List, map, replicate, ℤ, pos, nat_lt, slice_index}
 use Rattle.std.specs.List.{range_with_len}
 use Rattle.delay.specs.State.{Came}
 use Rattle.trellis.specs.Writer.{EncodersAfter}

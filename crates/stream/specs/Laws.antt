@@ -1,5 +1,5 @@
 -- Laws of the closed forms.
-use Rattle.std.specs.Prelude.{◌≡◌, ℕ, zero, suc, ◌+◌, ◌*◌, ◌/◌, ◌%◌, ◌<◌, List, [], ◌++◌, map, length, ℤ}
+use Rattle.std.specs.Prelude.{◌≡◌, ℕ, zero, suc, ◌+◌, ◌/◌, List, [], ◌++◌, map, ℤ}
 use Rattle.std.specs.List.{range_with_len}
 use Rattle.stream.specs.Sent.{row_byte, row_place, interleaved_byte, sent_data, sent_segment, data_number, segments_before, quad_segments, put_for}
 

@@ -1,5 +1,5 @@
 -- Arithmetic of the numberings: lanes of a data segment, places of symbols and bytes.
-use Rattle.std.proofs.Common.{◌≡◌, ℕ, ◌+◌, ◌-◌, ◌*◌, ◌/◌, ◌%◌, ◌<◌, ◌≢◌, ap, ◌∙◌, arith, rules}
+use Rattle.std.proofs.Common.{◌≡◌, ℕ, ◌+◌, ◌*◌, ◌/◌, ◌%◌, ◌<◌, ◌≢◌, ap, ◌∙◌, arith, rules}
 use Rattle.trellis.specs.Places.{encoder_of, symbol_of, byte_of, byte_encoder, PlaceLaw}
 use Rattle.trellis.specs.Writer.{lane_encoder, lane_byte}
 

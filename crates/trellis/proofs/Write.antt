@@ -1,5 +1,5 @@
 -- One lane more of a data segment.
-use Rattle.std.proofs.Common.{◌≡◌, ℕ, zero, suc, ◌+◌, ◌-◌, ◌*◌, ◌/◌, ◌%◌, ◌<◌, ◌≤◌, Bool, true, false, cond, ◌≢◌, List, [], ◌∷◌, length, get_or, ℤ, pos, refl, ap, ◌∙◌, arith, below_more}
+use Rattle.std.proofs.Common.{◌≡◌, ℕ, zero, suc, ◌+◌, ◌*◌, ◌/◌, ◌%◌, ◌<◌, ◌≤◌, Bool, true, false, cond, ◌≢◌, List, [], ◌∷◌, length, get_or, ℤ, pos, refl, ap, ◌∙◌, arith, below_more}
 use Rattle.level.specs.Level.{is_level, all_levels}
 use Rattle.trellis.specs.declared.encoding.Encoder.{Encoder}
 use Rattle.trellis.specs.Sent.{new_encoder, encoder_before, group_level}

@@ -37,9 +37,9 @@ fn bytes(heap: Global, text: &str) -> anyhow::Result<Vec<u8>> {
 }
 
 // The answer that a result and a number of wrong bytes stand for.
-fn answer(res: &str, wrong: &str) -> anyhow::Result<Mending> {
+fn answer(outcome: &str, wrong: &str) -> anyhow::Result<Mending> {
     let wrong = wrong.parse::<u8>()?;
-    match (res, wrong) {
+    match (outcome, wrong) {
         ("clean", 0) => Ok(Mending::Clean),
         ("mended", _) => Ok(Mending::Mended { wrong }),
         ("spoiled", 0) => Ok(Mending::Spoiled),

@@ -1,4 +1,4 @@
-use Rattle.std.proofs.Common.{◌≡◌, get_or, pos, arith, w8, SFits, rules}
+use Rattle.std.proofs.Common.{get_or, pos, arith, w8, SFits, rules}
 use Rattle.std.proofs.lemmas.Int.{to_z-of_z}
 use Rattle.level.proofs.Levels.{levels_next, levels_end}
 use Rattle.level.proofs.are_levels.Goals as goal
