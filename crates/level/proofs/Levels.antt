@@ -1,38 +1,17 @@
 -- Laws of levels, by the eight cases.
-use Rattle.std.proofs.Common.{◌≡◌, ℕ, zero, suc, ◌+◌, ◌<◌, ◌≤◌, Bool, true, false, cond, List, [], ◌∷◌, ◌++◌, length, get_or, take, drop, ℤ, pos, negsuc, neg_ℤ, refl, ap, ◌∙◌, add-one, arith, drop-cons, w8, SFits, to_z, of_z}
-use Rattle.std.proofs.lemmas.List.{drop_all}
+use Rattle.std.proofs.Common.{◌≡◌, ℕ, zero, suc, ◌<◌, Bool, true, List, [], ◌∷◌, ◌++◌, length, get_or, take, drop, ℤ, pos, negsuc, neg_ℤ, refl, ap, ◌∙◌, arith, w8, SFits, to_z, of_z}
 use Rattle.std.proofs.lemmas.Int.{to_z-of_z}
 use Rattle.level.specs.Level.{level_of, bits_of, is_level, all_levels, LevelLaws}
 
 level_is : (a b c : Bool) → is_level (level_of (record { z2 = a; z1 = b; z0 = c })) ≡ true
-level_is true true true = refl
-level_is true true false = refl
-level_is true false true = refl
-level_is true false false = refl
-level_is false true true = refl
-level_is false true false = refl
-level_is false false true = refl
-level_is false false false = refl
+level_is a b c = grind arith
 
 back : (a b c : Bool) → bits_of (level_of (record { z2 = a; z1 = b; z0 = c })) ≡ record { z2 = a; z1 = b; z0 = c }
-back true true true = refl
-back true true false = refl
-back true false true = refl
-back true false false = refl
-back false true true = refl
-back false true false = refl
-back false false true = refl
-back false false false = refl
-
-positive : (n : ℕ) → is_level (pos n) ≡ true → level_of (bits_of (pos n)) ≡ pos n
-positive n h = grind arith
-
-negative : (n : ℕ) → is_level (negsuc n) ≡ true → level_of (bits_of (negsuc n)) ≡ negsuc n
-negative n h = grind arith
+back a b c = grind arith
 
 from_level : (v : ℤ) → is_level v ≡ true → level_of (bits_of v) ≡ v
-from_level (pos n) h = positive n h
-from_level (negsuc n) h = negative n h
+from_level (pos n) h = grind arith
+from_level (negsuc n) h = grind arith
 
 pub level_laws : LevelLaws
 level_laws =
@@ -42,24 +21,11 @@ level_laws =
       levels_come_back = from_level;
     }
 
--- one symbol of a walk along the symbols
-pub levels_next : (xs : List ℤ) (i : ℕ) → i < length xs → all_levels (drop i xs) ≡ cond (is_level (get_or xs i (pos 0))) (all_levels (drop (i + 1) xs)) false
-levels_next xs i h = rw add-one (ap all_levels (drop-cons xs i (pos 0) h))
-
--- its end
-pub levels_end : (xs : List ℤ) (i : ℕ) → length xs ≤ i → all_levels (drop i xs) ≡ true
-levels_end xs i h = ap all_levels (drop_all i xs h)
-
 -- each of several levels is a level
 pub levels_at : (xs : List ℤ) (i : ℕ) → all_levels xs ≡ true → i < length xs → is_level (get_or xs i (pos 0)) ≡ true
 levels_at [] i e h = absurd (omega arith)
 levels_at (x ∷ xs) zero e h = grind arith
 levels_at (x ∷ xs) (suc i) e h = levels_at xs i (grind arith) (omega arith)
-
--- symbols that are each a level are all levels
-pub levels_from : (xs : List ℤ) → ((k : ℕ) → k < length xs → is_level (get_or xs k (pos 0)) ≡ true) → all_levels xs ≡ true
-levels_from [] f = refl
-levels_from (x ∷ xs) f = let a : is_level x ≡ true = f 0 (omega arith) in let b = levels_from xs (λ k h. f (suc k) (omega arith)) in grind arith
 
 -- the first of several levels
 pub levels_take : (n : ℕ) (xs : List ℤ) → all_levels xs ≡ true → all_levels (take n xs) ≡ true

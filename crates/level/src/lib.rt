@@ -17,7 +17,7 @@ impl Bits {
     pub fn level(self) -> i8
         ensures { result ≡ level_of self }
     {
-        let z = 4 * (self.z2 as u8) + 2 * (self.z1 as u8) + (self.z0 as u8);
+        let z = 4 * u8::from(self.z2) + 2 * u8::from(self.z1) + u8::from(self.z0);
         (2 * z) as i8 - 7
     }
 
@@ -41,21 +41,16 @@ impl Bits {
 pub fn is_level(symbol: i8) -> bool
     ensures { result ≡ is_level symbol }
 {
-    match symbol {
-        -7 | -5 | -3 | -1 | 1 | 3 | 5 | 7 => true,
-        _ => false,
-    }
+    matches!(symbol, -7 | -5 | -3 | -1 | 1 | 3 | 5 | 7)
 }
 
-// Whether all symbols are levels.
+// Whether all symbols are levels: a fold has no early end, so several symbols are tested at once.
 pub fn are_levels(symbols: &[i8]) -> bool
     ensures { result ≡ all_levels symbols.now }
 {
-    let mut all = true;
-    for symbol in symbols {
-        all &= is_level(*symbol);
-    }
-    all
+    symbols
+        .iter()
+        .fold(true, |all, symbol| all & is_level(*symbol))
 }
 
 // Bits and levels stand for each other, one to one.

@@ -1,18 +1,18 @@
-use Rattle.std.proofs.Common.{get_or, pos, arith, w8, SFits, rules}
-use Rattle.std.proofs.lemmas.Int.{to_z-of_z}
-use Rattle.level.proofs.Levels.{levels_next, levels_end}
+use Rattle.std.proofs.Common.{◌≡◌, Bool, true, false, cond, ◌&&◌, ◌∙◌, refl, rules, List, ℤ, [], ◌∷◌, arith}
+use Rattle.std.specs.List.{fold}
+use Rattle.std.proofs.lemmas.Iterator.{YieldsList-from_slice}
+use Rattle.std.proofs.lemmas.Iterator.Consumers.{fold_from_yields_List}
+use Rattle.level.specs.Level.{is_level, all_levels}
 use Rattle.level.proofs.are_levels.Goals as goal
 
-pub loop-symbol-preserved : goal.loop-symbol-preserved
-loop-symbol-preserved c =
-    let f : SFits w8 (get_or c.args.symbols.now c.loop-symbol.symbol-index (pos 0)) = search rules in
-    let r = simp to_z-of_z at c.is_level-all.ensures in
-    let e = levels_next c.args.symbols.now c.loop-symbol.symbol-index (omega arith) in
-    let i = c.loop-symbol.invariant in
-    grind arith
+-- both go through the symbols in the same way
+each : (all : Bool) (xs : List ℤ) → fold (λ a x. a && is_level x) all xs ≡ cond all (all_levels xs) false
+each true [] = refl
+each false [] = refl
+each true (x ∷ xs) = let t = each (is_level x) xs in grind arith
+each false (x ∷ xs) = each false xs
 
 pub returns : goal.returns
 returns c =
-    let e = levels_end c.args.symbols.now c.loop-symbol.symbol-index (omega arith) in
-    let i = c.loop-symbol.invariant in
-    grind arith
+    let xs = c.args.symbols.now in
+    fold_from_yields_List _ (λ a x. a && is_level x) true c.fold.result c.fold.ensures.ran (YieldsList-from_slice xs cc) (λ a x b q k. search rules) ∙ each true xs
