@@ -1,4 +1,5 @@
 pub mod Computed
 pub mod Digits
 pub mod Ends
+pub mod Filled
 pub mod Words

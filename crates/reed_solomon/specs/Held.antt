@@ -27,3 +27,8 @@ step r b = division_step left_20 r b
 -- what division of X^21 by the generator leaves
 abbrev pub left_21 : List ℕ
 left_21 = step left_20 0
+
+-- what division of X^(20 + k) by the generator leaves
+abbrev pub left_after : ℕ → List ℕ
+left_after zero = left_20
+left_after (suc k) = step (left_after k) 0

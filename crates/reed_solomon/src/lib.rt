@@ -15,6 +15,16 @@ use register::divided;
 pub use remainders::blank;
 use remainders::remainder;
 
+// That the row has from 21 to 255 bytes.
+fn check_length(row: &[u8]) -> Result<(), Refusal>
+    ensures { result ≡ complete_answer 20 (length row.now) }
+{
+    match row.len() {
+        21..=255 => Ok(()),
+        _ => Err(Refusal::WrongLength),
+    }
+}
+
 // Writes the last 20 bytes so that the row, of 21 to 255 bytes, is a code row; the bytes before them stay.
 // A row of another length is refused and stays.
 pub fn complete(row: &mut [u8]) -> Result<(), Refusal>
@@ -23,12 +33,10 @@ pub fn complete(row: &mut [u8]) -> Result<(), Refusal>
     ensures code { OnOk result (CodeRow 20 row.new) }
     ensures only { OnOk result (OnlyCodeRow 20 row.new) }
 {
-    let n = row.len();
-    if n < 21 || n > 255 {
-        return Err(Refusal::WrongLength);
-    }
-    let parity = divided(row, n - 20).bytes();
-    row[n - 20..].copy_from_slice(&parity);
+    check_length(row)?;
+    let m = row.len() - 20;
+    let (front, parity) = row.split_at_mut(m);
+    parity.copy_from_slice(&divided(front).bytes());
     Ok(())
 }
 
@@ -36,10 +44,10 @@ pub fn complete(row: &mut [u8]) -> Result<(), Refusal>
 pub fn is_code(row: &[u8]) -> bool
     ensures { Decides result (Codeword 20 row.now) }
 {
-    if row.len() <= 20 || row.len() > 255 {
-        return false;
+    match remainder_of(row) {
+        Ok(left) => blank(&left),
+        Err(_) => false,
     }
-    blank(&remainder(row))
 }
 
 // What division of the row, of 21 to 255 bytes, by the generator leaves: it has the row's values at the first 20 powers of 2.
@@ -47,9 +55,7 @@ pub fn is_code(row: &[u8]) -> bool
 pub fn remainder_of(row: &[u8]) -> Result<[u8; 20], Refusal>
     ensures { result ≡ remainder_answer 20 row.now }
 {
-    if row.len() < 21 || row.len() > 255 {
-        return Err(Refusal::WrongLength);
-    }
+    check_length(row)?;
     Ok(remainder(row))
 }
 

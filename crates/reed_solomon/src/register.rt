@@ -1,9 +1,9 @@
 // What is left so far of a row that is divided by the generator, in two words.
 ghost use Rattle.reed_solomon.specs.Held.{held, step};
 ghost use Rattle.rows.specs.Parity.{parity};
-ghost use Rattle.std.specs.Prelude.{◌≡◌, ◌≤◌, length, take};
+ghost use Rattle.std.specs.Prelude.{◌≡◌};
 
-use crate::multiples::{multiple_20, multiple_21};
+use crate::multiples::multiple;
 
 // 2^120: the first byte of the high word stands above it.
 const TO_120: u128 = 0x01000000_00000000_00000000_00000000;
@@ -29,7 +29,7 @@ impl Register {
     pub(crate) fn roll(self, b: u8) -> Register
         ensures { held result ≡ step (held self) b }
     {
-        let off = multiple_20(b ^ (self.high / TO_120) as u8);
+        let off = multiple(0, b ^ (self.high / TO_120) as u8);
         let high = self.high % TO_120 * 256 + (self.low / TO_24) as u128;
         let low = self.low % TO_24 * 256;
         Register {
@@ -42,8 +42,8 @@ impl Register {
     pub(crate) fn roll_two(self, a: u8, b: u8) -> Register
         ensures { held result ≡ step (step (held self) a) b }
     {
-        let first = multiple_21(a ^ (self.high / TO_120) as u8);
-        let second = multiple_20(b ^ (self.high / TO_112 % 256) as u8);
+        let first = multiple(1, a ^ (self.high / TO_120) as u8);
+        let second = multiple(0, b ^ (self.high / TO_112 % 256) as u8);
         let high = self.high % TO_112 * 65536 + (self.low / TO_16) as u128;
         let low = self.low % TO_16 * 65536;
         Register {
@@ -63,17 +63,17 @@ impl Register {
     }
 }
 
-// The parity bytes of the first m bytes of the row.
-pub(crate) fn divided(row: &[u8], m: usize) -> Register
-    requires { m ≤ length row.now }
-    ensures { held result ≡ parity 20 (take m row.now) }
+// The parity bytes of the bytes, two of which are taken at a time.
+pub(crate) fn divided(bytes: &[u8]) -> Register
+    ensures { held result ≡ parity 20 bytes.now }
 {
+    let (pairs, last) = bytes.as_chunks::<2>();
     let mut left = Register { high: 0, low: 0 };
-    for j in 0..m / 2 {
-        left = left.roll_two(row[2 * j], row[2 * j + 1]);
+    for &[a, b] in pairs {
+        left = left.roll_two(a, b);
     }
-    if m % 2 == 1 {
-        return left.roll(row[m - 1]);
+    for b in last {
+        left = left.roll(*b);
     }
     left
 }

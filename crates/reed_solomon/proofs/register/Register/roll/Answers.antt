@@ -6,5 +6,5 @@ use Rattle.reed_solomon.proofs.register.Register.roll.Goals as goal
 pub returns : goal.returns
 unfolding held
 returns c =
-    rolled c.args.self.high c.args.self.low c.args.b c.multiple_20-off.result.high c.multiple_20-off.result.low (omega arith) (omega arith) (omega arith)
-    c.multiple_20-off.ensures
+    rolled c.args.self.high c.args.self.low c.args.b c.multiple-off.result.high c.multiple-off.result.low (omega arith) (omega arith) (omega arith)
+    c.multiple-off.ensures

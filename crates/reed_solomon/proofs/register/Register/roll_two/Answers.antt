@@ -6,5 +6,5 @@ use Rattle.reed_solomon.proofs.register.Register.roll_two.Goals as goal
 pub returns : goal.returns
 unfolding held
 returns c =
-    rolled_two c.args.self.high c.args.self.low c.args.a c.args.b c.multiple_21-first.result.high c.multiple_21-first.result.low c.multiple_20-second.result.high
-    c.multiple_20-second.result.low (omega arith) (omega arith) (omega arith) (omega arith) (omega arith) c.multiple_21-first.ensures c.multiple_20-second.ensures
+    rolled_two c.args.self.high c.args.self.low c.args.a c.args.b c.multiple-first.result.high c.multiple-first.result.low c.multiple-second.result.high
+    c.multiple-second.result.low (omega arith) (omega arith) (omega arith) (omega arith) (omega arith) c.multiple-first.ensures c.multiple-second.ensures
