@@ -1,7 +1,7 @@
 // The randomizer of a field's packets: sixteen stages that give one byte a step, each combined with one byte of a packet.
 #![tactic(auto)]
 
-ghost use Rattle.std.specs.Prelude.{◌≡◌, ℕ, ◌<◌, ◌≤◌, length, MatchResult, bit_xor, slice_index};
+ghost use Rattle.std.specs.Prelude.{◌≡◌, ℕ, ◌*◌, ◌<◌, [], length, MatchResult, slice_index_or};
 ghost use Rattle.randomizer.specs.Stages.{after, keys_from};
 ghost use Rattle.randomizer.specs.Packets.{state_at, randomized, combine_answer};
 ghost use Rattle.randomizer.specs.Laws.{StepLaw, FirstBytes, FieldLaw, ByteLaw, RoundTrip};
@@ -12,9 +12,13 @@ mod row;
 use key_tables::{FOLD, HIGH, LOW, STARTS};
 use refusal::Refusal;
 pub use row::{code_packet, packet_bytes, packet_returns_stands};
+use std::array;
 
 // The bytes of a packet after its first, and of a row before its parity bytes.
 const BYTES: usize = 187;
+
+// The blocks of eight keys that a packet's bytes need; of the last block five are left over.
+const BLOCKS: usize = 24;
 
 // The packets of a field.
 const PACKETS: usize = 312;
@@ -40,28 +44,17 @@ fn eight_steps(state: u16) -> u16
     FOLD[(state / 256) as usize] ^ (state % 256 * 256)
 }
 
-// Writes the bytes from a state on.
-fn fill_keys(first: u16, keys: &mut [u8])
-    requires { length keys.old ≡ 192 }
-    ensures { keys.new ≡ keys_from 192 first }
+// The bytes from a state on, eight in each block.
+fn key_blocks(first: u16) -> [[u8; 8]; BLOCKS]
+    ensures { (k : ℕ) → k < 24 → slice_index_or result k [] ≡ keys_from 8 (after (8 * k) first) }
 {
+    let mut blocks = [[0; 8]; BLOCKS];
     let mut state = first;
-    for block in 0..24 {
-        keys[8 * block..8 * block + 8].copy_from_slice(&eight_keys(state));
+    for block in blocks.iter_mut() {
+        *block = eight_keys(state);
         state = eight_steps(state);
     }
-}
-
-// Writes the bytes, each combined with the key of its index.
-fn xor_each(bytes: &[u8], keys: &[u8], out: &mut [u8])
-    requires bytes_whole { length bytes.now ≡ 187 }
-    requires out_whole { length out.old ≡ 187 }
-    requires keys { 187 ≤ length keys.now }
-    ensures { (j : ℕ) → j < 187 → slice_index out.new j ≡ bit_xor (slice_index bytes.now j) (slice_index keys.now j) }
-{
-    for j in 0..BYTES {
-        out[j] = bytes[j] ^ keys[j];
-    }
+    blocks
 }
 
 // Combines the 187 bytes of the packet at a place with the randomizer's; done twice at one place it gives them back.
@@ -70,12 +63,10 @@ pub fn combine(bytes: &[u8], place: usize, out: &mut [u8]) -> Result<(), Refusal
     ensures answer { result ≡ combine_answer (length bytes.now) (length out.old) }
     ensures after { MatchResult result (λ _. out.new ≡ randomized place bytes.now) (λ _. out.new ≡ out.old) }
 {
-    if bytes.len() != BYTES || out.len() != BYTES {
-        return Err(Refusal::WrongLength);
-    }
-    let mut keys = [0; 192];
-    fill_keys(first_state(place), &mut keys);
-    xor_each(bytes, &keys, out);
+    let bytes = <&[u8; BYTES]>::try_from(bytes).map_err(|_| Refusal::WrongLength)?;
+    let out = out.as_mut_array::<BYTES>().ok_or(Refusal::WrongLength)?;
+    let keys = key_blocks(first_state(place));
+    *out = array::from_fn(|j| bytes[j] ^ keys[j / 8][j % 8]);
     Ok(())
 }
 
