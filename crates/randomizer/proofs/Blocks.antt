@@ -1,9 +1,12 @@
 -- Eight bytes and eight steps at once: the tables' rules, and the lists that the blocks make.
-use Rattle.std.proofs.Common.{◌≡◌, ℕ, zero, suc, ◌+◌, ◌*◌, ◌/◌, ◌%◌, ◌<◌, List, [], ◌∷◌, map, get_or, sym, refl, ap, ◌∙◌, ap₂, le_of_suc-le-suc, not-suc-le-zero, arith}
+use Rattle.std.proofs.Common.{◌≡◌, ℕ, zero, suc, ◌+◌, ◌-◌, ◌*◌, ◌/◌, ◌%◌, ◌<◌, List, [], ◌∷◌, ◌++◌, map, length, get_or, take, sym, refl, ap, ◌∙◌, ap₂, le_of_suc-le-suc, not-suc-le-zero, arith, length-append}
 use native.Mathlib.Nat.{div-div-eq-div-mul}
+use borrow.Rule.Slice.PartMut.{put_mid}
 use lib.Bits.{bit_xor}
 use Rattle.std.specs.List.{range_with_len}
 use Rattle.std.proofs.lemmas.List.FromFn.{get_or-map-range_with_len}
+use Rattle.std.proofs.lemmas.List.{length-take, length-drop}
+use Rattle.std.proofs.lemmas.Slice.{take-put_mid}
 use Rattle.tables.proofs.All.{agree}
 use Rattle.tables.proofs.Entries.{iterates, iterate}
 use Rattle.randomizer.specs.Stages.{start, next, after, byte_of, keys_from}
@@ -80,12 +83,38 @@ lowest_eight x = simp div-div-eq-div-mul
 pub eight_bytes : (x s : ℕ) (bytes : List ℕ) → bytes ≡ low_bytes x → x ≡ packed 8 s → bytes ≡ keys_from 8 s
 eight_bytes x s bytes e p = e ∙ sym (lowest_eight x) ∙ ap (lowest 8) p ∙ lowest_packed 8 s
 
--- byte j of those from a state on
+-- bytes from a state on, in two parts
+pub keys_append : (m n s : ℕ) → keys_from m s ++ keys_from n (after m s) ≡ keys_from (m + n) s
+unfolding keys_from after
+keys_append zero n s = let e : 0 + n ≡ n = omega arith in rw e
+keys_append (suc m) n s = let e : suc m + n ≡ suc (m + n) = omega arith in rw e (ap (λ (xs : List ℕ). byte_of s ∷ xs) (keys_append m n (next s)))
+
+-- how many bytes they are
+pub length_keys : (n s : ℕ) → length (keys_from n s) ≡ n
+unfolding keys_from
+length_keys zero s = refl
+length_keys (suc n) s = ap suc (length_keys n (next s))
+
+-- byte j of them
 pub get_or_keys : (n s j : ℕ) → j < n → get_or (keys_from n s) j 0 ≡ byte_of (after j s)
 unfolding keys_from after
 get_or_keys zero s j h = absurd (not-suc-le-zero h)
 get_or_keys (suc n) s zero h = refl
 get_or_keys (suc n) s (suc j) h = get_or_keys n (next s) j (le_of_suc-le-suc h)
+
+-- one block more of a memory that is filled from its start
+pub block_more : (b s first : ℕ) (keys ys : List ℕ) → b < 24 → length keys ≡ 192 → s ≡ after (8 * b) first → take (8 * b) keys ≡ keys_from (8 * b) first → ys ≡ keys_from 8 s
+    → take (8 * (b + 1)) (put_mid (8 * b) (8 * b + 8 - 8 * b) keys ys) ≡ keys_from (8 * (b + 1)) first
+block_more b s first keys ys h l a k e =
+    let n : 8 * (b + 1) ≡ 8 * b + 8 = omega arith in
+    let ly : length ys ≡ 8 = ap length e ∙ length_keys 8 s in
+    take-put_mid (8 * b) (8 * b + 8 - 8 * b) keys ys (8 * (b + 1)) (omega arith) (omega arith)
+    ∙ ap₂ (λ (xs zs : List ℕ). xs ++ zs) k (e ∙ ap (keys_from 8) a)
+    ∙ keys_append (8 * b) 8 first ∙ ap (λ (m : ℕ). keys_from m first) (sym n)
+
+-- and the memory keeps its length
+pub length_block : (b : ℕ) (keys ys : List ℕ) → b < 24 → length keys ≡ 192 → length ys ≡ 8 → length (put_mid (8 * b) (8 * b + 8 - 8 * b) keys ys) ≡ 192
+length_block b keys ys h l e = simp (length-append, length-take, length-drop) (omega arith)
 
 -- the state one block on
 pub after_more : (b s first : ℕ) → s ≡ after (8 * b) first → after 8 s ≡ after (8 * (b + 1)) first

@@ -1,5 +1,5 @@
 -- What combining gives, byte by byte, and that doing it twice gives the bytes back.
-use Rattle.std.proofs.Common.{◌≡◌, ℕ, ◌+◌, ◌*◌, ◌/◌, ◌%◌, ◌<◌, List, [], length, get_or, sym, ap, ◌∙◌, arith}
+use Rattle.std.proofs.Common.{◌≡◌, ℕ, ◌+◌, ◌*◌, ◌%◌, ◌<◌, List, length, get_or, sym, ap, ◌∙◌, arith}
 use lib.Bits.{bit_xor, xor_assoc, xor_self, xor_zero_r}
 use Rattle.std.proofs.lemmas.List.FromFn.{length-map-range_with_len, get_or-map-range_with_len}
 use Rattle.std.proofs.lemmas.List.{ext_get_or}
@@ -34,20 +34,14 @@ pub field_law : FieldLaw
 unfolding key_at
 field_law place j = let e : (place + 312) % 312 ≡ place % 312 = omega arith in rw e
 
--- byte j of a packet's bytes, from the blocks of eight
-key_in_block : (place j : ℕ) (blocks : List (List ℕ)) → j < 187 → ((k : ℕ) → k < 24 → get_or blocks k [] ≡ keys_from 8 (after (8 * k) (state_at place)))
-    → get_or (get_or blocks (j / 8) []) (j % 8) 0 ≡ key_at place j
+-- byte j of those written from the state of a place
+pub key_written : (place j : ℕ) → j < 192 → get_or (keys_from 192 (state_at place)) j 0 ≡ key_at place j
 unfolding state_at key_at key
-key_in_block place j blocks h each =
-    let s : ℕ = after (187 * (place % 312)) start in
-    let e : 8 * (j / 8) + j % 8 ≡ j = omega arith in
-    ap (λ (xs : List ℕ). get_or xs (j % 8) 0) (each (j / 8) (omega arith)) ∙ get_or_keys 8 (after (8 * (j / 8)) s) (j % 8) (omega arith)
-    ∙ ap byte_of (after_after (8 * (j / 8)) (j % 8) s ∙ ap (λ (n : ℕ). after n s) e ∙ after_after (187 * (place % 312)) j start)
+key_written place j h = get_or_keys 192 (after (187 * (place % 312)) start) j h ∙ ap byte_of (after_after (187 * (place % 312)) j start)
 
 -- a memory of which each byte is combined
-pub all_combined : (place : ℕ) (bytes out : List ℕ) (blocks : List (List ℕ)) → length bytes ≡ 187 → length out ≡ 187
-    → ((k : ℕ) → k < 24 → get_or blocks k [] ≡ keys_from 8 (after (8 * k) (state_at place)))
-    → ((j : ℕ) → j < 187 → get_or out j 0 ≡ bit_xor (get_or bytes j 0) (get_or (get_or blocks (j / 8) []) (j % 8) 0)) → out ≡ randomized place bytes
-all_combined place bytes out blocks lb lo keys each =
+pub all_combined : (place : ℕ) (bytes keys out : List ℕ) → length bytes ≡ 187 → length out ≡ 187 → keys ≡ keys_from 192 (state_at place)
+    → ((j : ℕ) → j < 187 → get_or out j 0 ≡ bit_xor (get_or bytes j 0) (get_or keys j 0)) → out ≡ randomized place bytes
+all_combined place bytes keys out lb lo k each =
     ext_get_or 0 out (randomized place bytes) (lo ∙ sym lb ∙ sym (length_randomized place bytes))
-    (λ j h. each j (omega arith) ∙ ap (bit_xor (get_or bytes j 0)) (key_in_block place j blocks (omega arith) keys) ∙ sym (get_or_randomized place bytes j (omega arith)))
+    (λ j h. each j (omega arith) ∙ ap (bit_xor (get_or bytes j 0)) (ap (λ (xs : List ℕ). get_or xs j 0) k ∙ key_written place j (omega arith)) ∙ sym (get_or_randomized place bytes j (omega arith)))

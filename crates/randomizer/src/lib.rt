@@ -1,7 +1,7 @@
 // The randomizer of a field's packets: sixteen stages that give one byte a step, each combined with one byte of a packet.
 #![tactic(auto)]
 
-ghost use Rattle.std.specs.Prelude.{◌≡◌, ℕ, ◌*◌, ◌<◌, [], length, MatchResult, slice_index_or};
+ghost use Rattle.std.specs.Prelude.{◌≡◌, ℕ, ◌<◌, length, MatchResult, bit_xor, slice_index};
 ghost use Rattle.randomizer.specs.Stages.{after, keys_from};
 ghost use Rattle.randomizer.specs.Packets.{state_at, randomized, combine_answer};
 ghost use Rattle.randomizer.specs.Laws.{StepLaw, FirstBytes, FieldLaw, ByteLaw, RoundTrip};
@@ -12,13 +12,12 @@ mod row;
 use key_tables::{FOLD, HIGH, LOW, STARTS};
 use refusal::Refusal;
 pub use row::{code_packet, packet_bytes, packet_returns_stands};
-use std::array;
 
 // The bytes of a packet after its first, and of a row before its parity bytes.
 const BYTES: usize = 187;
 
-// The blocks of eight keys that a packet's bytes need; of the last block five are left over.
-const BLOCKS: usize = 24;
+// The keys that are made for a packet, in blocks of eight; the last five are left over.
+const KEYS: usize = 192;
 
 // The packets of a field.
 const PACKETS: usize = 312;
@@ -44,17 +43,28 @@ fn eight_steps(state: u16) -> u16
     FOLD[(state / 256) as usize] ^ (state % 256 * 256)
 }
 
-// The bytes from a state on, eight in each block.
-fn key_blocks(first: u16) -> [[u8; 8]; BLOCKS]
-    ensures { (k : ℕ) → k < 24 → slice_index_or result k [] ≡ keys_from 8 (after (8 * k) first) }
+// The bytes from a state on, eight at a time.
+fn keys(first: u16) -> [u8; KEYS]
+    ensures { result ≡ keys_from 192 first }
 {
-    let mut blocks = [[0; 8]; BLOCKS];
+    let mut keys = [0; KEYS];
     let mut state = first;
-    for block in blocks.iter_mut() {
-        *block = eight_keys(state);
+    // By index: what is written through chunks_mut is not known to the check.
+    for block in 0..KEYS / 8 {
+        keys[8 * block..8 * block + 8].copy_from_slice(&eight_keys(state));
         state = eight_steps(state);
     }
-    blocks
+    keys
+}
+
+// Writes the bytes, each combined with the key of its index.
+// By index: what is written through a zip of iter_mut is not known to the check, and array::from_fn is four times slower.
+fn xor_each(bytes: &[u8; BYTES], keys: &[u8; KEYS], out: &mut [u8; BYTES])
+    ensures { (j : ℕ) → j < 187 → slice_index out.new j ≡ bit_xor (slice_index bytes.now j) (slice_index keys.now j) }
+{
+    for j in 0..BYTES {
+        out[j] = bytes[j] ^ keys[j];
+    }
 }
 
 // Combines the 187 bytes of the packet at a place with the randomizer's; done twice at one place it gives them back.
@@ -65,8 +75,7 @@ pub fn combine(bytes: &[u8], place: usize, out: &mut [u8]) -> Result<(), Refusal
 {
     let bytes = <&[u8; BYTES]>::try_from(bytes).map_err(|_| Refusal::WrongLength)?;
     let out = out.as_mut_array::<BYTES>().ok_or(Refusal::WrongLength)?;
-    let keys = key_blocks(first_state(place));
-    *out = array::from_fn(|j| bytes[j] ^ keys[j / 8][j % 8]);
+    xor_each(bytes, &keys(first_state(place)), out);
     Ok(())
 }
 
