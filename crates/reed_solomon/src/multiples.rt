@@ -6,7 +6,7 @@ ghost use Rattle.std.specs.Prelude.{◌≡◌, ◌<◌};
 use crate::register::Register;
 
 // The multiples of one row of 20 bytes: of each its first 16 bytes, and its last 4.
-// Two arrays of numbers, since an array of 256 registers is more than the check can hold.
+// Two arrays of numbers, since a table of registers takes more memory than the check has.
 struct Multiples {
     high: [u128; 256],
     low: [u32; 256],

@@ -19,11 +19,5 @@ pub(crate) fn remainder(row: &[u8]) -> [u8; 20]
 pub fn blank(bytes: &[u8; 20]) -> bool
     ensures { Decides result (bytes.now ≡ replicate 20 0) }
 {
-    // By index: the compiler takes the 20 tests apart, and with `all` or `==` a clean row is mended 3 % slower.
-    for k in 0..20 {
-        if bytes[k] != 0 {
-            return false;
-        }
-    }
-    true
+    bytes.iter().all(|byte| *byte == 0)
 }
