@@ -1,12 +1,8 @@
 -- Two outputs that wait have two cells, where the branches' cells lie apart.
-use Rattle.std.proofs.Common.{◌≡◌, ℕ, ◌+◌, ◌*◌, ◌/◌, ◌%◌, ◌<◌, ◌≤◌, ◌≢◌, ◌⊎◌, ap, ◌∙◌, ⊎_elim, mod-lt, mul-le-mul_left, mul-add, arith}
+use Rattle.std.proofs.Common.{◌≡◌, ℕ, ◌+◌, ◌*◌, ◌/◌, ◌%◌, ◌<◌, ◌≤◌, ap, ◌∙◌, ⊎_elim, mod-lt, mul-le-mul_left, mul-add, arith}
 use native.Mathlib.Nat.{div-add-mod, add-mul-div_left, add-mul-mod_self_left, add-mod_right}
 use Rattle.std.proofs.lemmas.Bool.{cases_order, cases_eq, cases_lt}
-use Rattle.delay.specs.Ring.{cell}
-
--- The branches' cells lie apart.
-unfoldable pub Apart : ℕ → (ℕ → ℕ) → (ℕ → ℕ) → Type 0
-Apart b S L = (i j : ℕ) → i < b → j < b → i ≢ j → (S i + L i ≤ S j) ⊎ (S j + L j ≤ S i)
+use Rattle.delay.specs.Ring.{cell, Apart}
 
 -- Turns of one branch that are fewer than its cells apart have two slots.
 slots_apart : (l a c : ℕ) → a < c → c < a + l → a % l ≡ c % l → ⊥

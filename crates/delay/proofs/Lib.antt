@@ -2,6 +2,5 @@ pub mod Delayed
 pub mod Cells
 pub mod Step
 pub mod Regions
-pub mod Sofar
 pub mod Calls
 pub mod ReturnLaws

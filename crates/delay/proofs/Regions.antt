@@ -8,8 +8,8 @@ use Rattle.delay.specs.declared.branches.Direction.{Direction}
 use Rattle.delay.specs.declared.branches.Direction.TheVariants.{Interleave, Deinterleave}
 use Rattle.delay.specs.declared.branches.Shape.{Shape}
 use Rattle.delay.specs.declared.branches.Turn.{Turn}
-use Rattle.delay.specs.Branches.{Small, turn_of, cells_of, sizes, firsts}
-use Rattle.delay.proofs.Cells.{Apart}
+use Rattle.delay.specs.Ring.{Apart, Sound, chain_layout}
+use Rattle.delay.specs.Branches.{turn_of, cells_of, sizes, firsts, layout_of}
 
 -- 0 + 1 + .. + (n - 1)
 abbrev tri : ℕ → ℕ
@@ -76,20 +76,26 @@ pairs_small b l = leb→le _ _ (below (λ n. leb (n * (n - 1) / 2) 32385) 256 tt
 pub memory_small : (b s : ℕ) → b ≤ 255 → s ≤ 255 → memory_size b s ≤ 8258175
 memory_small b s l m = mul-le-mul m (pairs_small b l)
 
-pub size_small : (d : Direction) (b s j : ℕ) → b ≤ 255 → s ≤ 255 → j < b → size_of d b s j ≤ 64770
-size_small Interleave b s j l m q = mul-le-mul {n₂ = 255} {m₂ = 254} m (omega arith)
-size_small Deinterleave b s j l m q = mul-le-mul {n₂ = 255} {m₂ = 254} m (omega arith)
-
 -- The same of a shape.
-module _ (s : Shape) (small : Small s) where
-  pub turn_within : (j : ℕ) → j < s.branches → (turn_of s j).first + (turn_of s j).size ≤ cells_of s
-  turn_within j l = within s.direction s.branches s.step j small.few l
+pub turn_within : (s : Shape) (j : ℕ) → j < s.branches → firsts s j + sizes s j ≤ cells_of s
+turn_within s j l = within s.direction s.branches s.step j s.few l
 
-  pub turn_short : (j : ℕ) → j < s.branches → (turn_of s j).size ≤ 64770
-  turn_short j l = size_small s.direction s.branches s.step j small.few small.short l
+-- A turn has its branch's size, and its cells end where a number can tell.
+pub turn_fits : (s : Shape) (t : Turn) → t.branch < s.branches → t ≡ turn_of s t.branch → (t.size ≡ sizes s t.branch) × (t.first + t.size ≤ 8258175)
+turn_fits s t l e =
+    let w = turn_within s t.branch l in
+    let c = memory_small s.branches s.step s.few s.short in
+    let f : t.first ≡ firsts s t.branch = ap (λ (u : Turn). u.first) e in
+    let g : t.size ≡ sizes s t.branch = ap (λ (u : Turn). u.size) e in
+    (g, omega arith)
 
-  pub cells_few : cells_of s ≤ 8258175
-  cells_few = memory_small s.branches s.step small.few small.short
+pub sound_of : (s : Shape) → Sound (layout_of s)
+sound_of s = record { some = s.some; apart = apart s.direction s.branches s.step; within = turn_within s }
+
+-- The one branch of a plain delay.
+pub chain_sound : (n : ℕ) → Sound (chain_layout n)
+unfolding Apart
+chain_sound n = record { some = omega arith; apart = λ i j p q e. absurd (e (omega arith)); within = λ j l. omega arith }
 
 -- One branch on.
 size_up : (b s j : ℕ) → size_of Interleave b s j + s ≡ size_of Interleave b s (j + 1)

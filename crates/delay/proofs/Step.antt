@@ -1,13 +1,11 @@
 -- One element through the ring: what leaves, and how the ring stands after it.
-use Rattle.std.proofs.Common.{◌≡◌, ℕ, ◌+◌, ◌*◌, ◌/◌, ◌%◌, ◌<◌, ◌≤◌, ◌≢◌, List, [], ◌∷◌, ◌++◌, length, get_or, set, sym, ap, ◌∙◌, subst, ⊎_elim, mod-lt, mul-pos, mul-zero, mul-one, arith}
+use Rattle.std.proofs.Common.{◌≡◌, ℕ, ◌+◌, ◌*◌, ◌/◌, ◌%◌, ◌<◌, ◌≤◌, ◌≢◌, List, [], ◌∷◌, ◌++◌, length, get_or, set, Some, None, Option, sym, ap, ◌∙◌, subst, ⊎_elim, mod-lt, mul-pos, mul-zero, mul-one, arith}
 use native.Mathlib.Nat.{add-div_right, add-mod_right, mod-add-mod}
-use Rattle.std.proofs.lemmas.List.{length_push, get_or-set_same, get_or-set_other}
+use Rattle.std.proofs.lemmas.List.{length_push, get_or_read, get_or-set_same, get_or-set_other}
 use Rattle.std.proofs.lemmas.Bool.{cases_eq, cases_lt}
-use Rattle.delay.specs.Ring.{delayed, cell, Ring}
-use Rattle.delay.specs.Branches.{Exchanged}
-use Rattle.delay.specs.declared.branches.Turn.{Turn}
+use Rattle.delay.specs.Ring.{delayed, cell, Apart, Ring, Layout, Place, Sound, Stands, Visited, Took}
 use Rattle.delay.proofs.Delayed.{delayed_more, delayed_last}
-use Rattle.delay.proofs.Cells.{Apart, same_branch, cells_apart, last_cell}
+use Rattle.delay.proofs.Cells.{same_branch, cells_apart, last_cell}
 
 module _ {X : Type 0} (z : X) (b : ℕ) (S L : ℕ → ℕ) (p : 0 < b) (apart : Apart b S L) (h : List X) (x : X)
     (branch : ℕ) (slots : List ℕ) (cells : List X) (long : b ≤ length slots) (before : Ring z h b S L branch slots cells) where
@@ -113,23 +111,26 @@ module _ {X : Type 0} (z : X) (b : ℕ) (S L : ℕ → ℕ) (p : 0 < b) (apart :
           },
         )
 
--- One element through the branch whose turn it is.
-pub stepped : {X : Type 0} (b : ℕ) (S L : ℕ → ℕ) → 0 < b → Apart b S L → (t : Turn) (slots slots' : List ℕ) (cells cells' : List X) (x r : X)
-    → t.first ≡ S t.branch → t.size ≡ L t.branch → b ≤ length slots → t.first + t.size ≤ length cells → Exchanged t slots cells x r slots' cells'
-    → (z : X) (h : List X) → Ring z h b S L t.branch slots cells
-    → (r ≡ delayed z b L (h ++ x ∷ []) (length h)) × Ring z (h ++ x ∷ []) b S L ((t.branch + 1) % b) slots' cells'
-stepped {X} b S L p apart t slots slots' cells cells' x r fst siz long within ex z h before =
-    ⊎_elim
-    (λ (e : t.size ≡ 0).
-    let s = step_none z b S L p apart h x t.branch slots cells long before (sym siz ∙ e) in
-    let a = ex.at_once e in
-    rw (a.0, a.1, a.2) s)
-    (λ (e : t.size ≢ 0).
-    let some : 0 < t.size = omega arith in
-    let s = step_some z b S L p apart h x t.branch slots cells long before (omega arith) (omega arith) in
-    let u = ex.slot_goes_on some in
-    let v = ex.enters some in (
-      ex.leaves some z ∙ (ap (λ (k : ℕ). get_or cells (k + get_or slots t.branch 0) z) fst ∙ s.0),
-      rw (u, v, fst, siz) s.1,
-    ))
-    (cases_eq t.size 0)
+-- One element at a turn that falls on no cell, and at one that falls on a cell.
+module _ {X : Type 0} (l : Layout) (sound : Sound l) (p : Place) (stands : Stands l p) (cell : Option ℕ) (p' : Place) (visited : Visited l p cell p') (cells : List X) (x : X) where
+  pub took_none : cell ≡ None → Took l p cells x x p' cells
+  took_none none =
+      let e : l.size p.branch ≡ 0 = ⊎_elim (λ (a : l.size p.branch ≡ 0). a) (λ (a : l.size p.branch ≢ 0). let v = visited.in_slot (omega arith) in cc) (cases_eq (l.size p.branch) 0) in
+      record {
+        run = λ z h before.
+            let s = step_none z l.branches l.first l.size sound.some sound.apart h x p.branch p.slots cells stands.long before e in
+            (s.0, rw (visited.turn_goes_on, (visited.at_once e).1) s.1);
+      }
+
+  pub took_some : (i : ℕ) (r : X) → cell ≡ Some i → r ≡ get_or cells i r → l.cells ≤ length cells → Took l p cells x r p' (set cells i x)
+  took_some i r some was whole =
+      let e : 0 < l.size p.branch = ⊎_elim (λ (a : l.size p.branch ≡ 0). let v = visited.at_once a in cc) (λ (a : l.size p.branch ≢ 0). omega arith) (cases_eq (l.size p.branch) 0) in
+      let v = visited.in_slot e in
+      let f : i ≡ l.first p.branch + get_or p.slots p.branch 0 = cc in
+      let w = sound.within p.branch stands.inside in
+      let u = stands.fit p.branch stands.inside e in
+      record {
+        run = λ z h before.
+            let s = step_some z l.branches l.first l.size sound.some sound.apart h x p.branch p.slots cells stands.long before e (omega arith) in
+            (get_or_read cells i r (omega arith) was z ∙ (ap (λ (j : ℕ). get_or cells j z) f ∙ s.0), rw (visited.turn_goes_on, v.1, f) s.1);
+      }

@@ -59,13 +59,6 @@ pub record Passed {X : Type 0} (d : Delay) (cells xs ys : List X) (d' : Delay) (
 abbrev pub PlainCame : {X : Type 0} → X → List X → PlainDelay → List X → Type 0
 PlainCame z h d cells = Ring z h 1 (λ _. 0) (λ _. d.size) 0 (d.slot ∷ []) cells
 
--- The elements xs through a plain delay of n cells from this slot on, and ys left for them.
-pub record Shifted {X : Type 0} (n slot : ℕ) (cells xs : List X) (slot' : ℕ) (cells' ys : List X) : Type 0 where
-  pub inside : slot' < n
-  pub same_length : length ys ≡ length xs
-  pub run : (z : X) (h : List X) → Ring z h 1 (λ _. 0) (λ _. n) 0 (slot ∷ []) cells
-      → ((k : ℕ) → k < length xs → slice_index_or ys k z ≡ plain_delayed z n (h ++ xs) (length h + k)) × Ring z (h ++ xs) 1 (λ _. 0) (λ _. n) 0 (slot' ∷ []) cells'
-
 -- The plain delay starts anew, with z in every cell.
 pub record PlainCleared {X : Type 0} (z : X) (d : PlainDelay) (cells : List X) (d' : PlainDelay) (cells' : List X) : Type 0 where
   pub same_size : d'.size ≡ d.size

@@ -6,6 +6,7 @@ ghost use Rattle.delay.specs.Laws.{ClearAt, PlainClearAt, LeavesAt, ReturnsAt, P
 pub mod branches;
 pub mod memory;
 pub mod plain;
+mod ring;
 
 pub use branches::Direction;
 pub use memory::Delay;

@@ -1,5 +1,5 @@
 // The delay memory's own state: its branches and where each of them stands. Its cells are lent at each call.
-ghost use Rattle.std.specs.Prelude.{◌≡◌, ◌<◌, ◌≤◌};
+ghost use Rattle.std.specs.Prelude.{◌≡◌, ◌<◌};
 ghost use Rattle.delay.specs.Branches.{Fit, turn_of};
 
 use super::branches::{Shape, Turn};
@@ -12,10 +12,6 @@ pub struct Delay {
     shape: Shape,
     turn: Turn,
     slots: [u16; 255],
-    ghost some: { 0 < shape.branches },
-    ghost few: { shape.branches ≤ 255 },
-    ghost long: { 0 < shape.step },
-    ghost short: { shape.step ≤ 255 },
     ghost inside: { turn.branch < shape.branches },
     ghost placed: { turn ≡ turn_of shape turn.branch },
     ghost fit: { Fit shape slots },

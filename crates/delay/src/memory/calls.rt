@@ -1,11 +1,12 @@
 // The calls of the delay memory.
 ghost use Rattle.std.specs.Prelude.{◌≡◌, length, is_ok, MatchResult, ◌==◌};
 ghost use Rattle.refusal.specs.declared.Refusal.TheVariants.{WrongLength};
-ghost use Rattle.delay.specs.Branches.{Small, cells_of};
+ghost use Rattle.delay.specs.Branches.{cells_of};
 ghost use Rattle.delay.specs.State.{Sized, Fresh, Made, Cleared, Pushed, Passed, length_answer};
 
-use super::super::branches::{Direction, Shape, fill, first_slots, through, through_all};
 use super::Delay;
+use crate::branches::{Direction, Shape};
+use crate::ring::{Branching, clear, pass, push};
 use refusal::Refusal;
 
 impl Delay {
@@ -23,12 +24,7 @@ impl Delay {
             (λ y. Pushed self.old cells.old x y self.new cells.new)
             (λ e. (e ≡ WrongLength) × (self.new ≡ self.old) × (cells.new ≡ cells.old)) }
     {
-        if cells.len() != self.len() {
-            return Err(Refusal::WrongLength);
-        }
-        let y = through(self.turn, &mut self.slots, cells, x);
-        self.turn = self.shape.next(self.turn);
-        Ok(y)
+        push(self.shape, &mut self.turn, &mut self.slots, cells, x)
     }
 
     // Takes the elements of `part` in, one after the other, and puts in place of each the one that leaves for it.
@@ -38,11 +34,7 @@ impl Delay {
             (λ _. Passed self.old cells.old part.old part.new self.new cells.new)
             (λ _. (self.new ≡ self.old) × (cells.new ≡ cells.old) × (part.new ≡ part.old)) }
     {
-        if cells.len() != self.len() {
-            return Err(Refusal::WrongLength);
-        }
-        self.turn = through_all(self.shape, self.turn, &mut self.slots, cells, part);
-        Ok(())
+        pass(self.shape, &mut self.turn, &mut self.slots, cells, part)
     }
 
     // Starts anew with `zero` in every cell.
@@ -52,10 +44,7 @@ impl Delay {
             (λ _. Cleared zero self.old cells.old self.new cells.new)
             (λ _. (self.new ≡ self.old) × (cells.new ≡ cells.old)) }
     {
-        if cells.len() != self.len() {
-            return Err(Refusal::WrongLength);
-        }
-        fill(cells, zero);
+        clear(self.shape, cells, zero)?;
         *self = Delay::fresh(self.shape);
         Ok(())
     }
@@ -78,14 +67,13 @@ impl Delay {
 
     // A memory of this shape that has taken nothing in.
     fn fresh(shape: Shape) -> Delay
-        requires { Small shape }
         ensures shape { result.shape ≡ shape }
         ensures fresh { Fresh result }
     {
         Delay {
             shape,
             turn: shape.start(),
-            slots: first_slots(),
+            slots: [0; 255],
         }
     }
 }

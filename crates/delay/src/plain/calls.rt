@@ -1,24 +1,34 @@
 // The calls of the plain delay.
-ghost use Rattle.std.specs.Prelude.{◌≡◌, ◌<◌, length, is_ok, MatchResult, ◌==◌};
+ghost use Rattle.std.specs.Prelude.{◌≡◌, ◌<◌, [], ◌∷◌, length, is_ok, MatchResult, ◌==◌};
 ghost use Rattle.refusal.specs.declared.Refusal.TheVariants.{WrongLength};
-ghost use Rattle.delay.specs.State.{Shifted, PlainCleared, PlainPushed, PlainPassed, length_answer};
+ghost use Rattle.delay.specs.State.{PlainCleared, PlainPushed, PlainPassed, length_answer};
+ghost use Rattle.delay.specs.Ring.{chain_layout};
 
-use super::super::branches::{exchange, fill, following};
-use super::PlainDelay;
+use super::{Chain, PlainDelay};
+use crate::ring::{Branching, clear, following, pass, push};
 use refusal::Refusal;
 
-// Takes the elements of `part` in, one after the other, puts in place of each the one that leaves for it, and gives the slot after them.
-fn shift_all<T: Copy>(size: usize, first: usize, cells: &mut [T], part: &mut [T]) -> usize
-    requires whole { length cells.old ≡ size }
-    requires inside { first < size }
-    ensures { Shifted size first cells.old part.old result cells.new part.new }
-{
-    let mut slot = first;
-    for i in 0..part.len() {
-        part[i] = exchange(cells, slot, part[i]);
-        slot = following(slot, size);
+impl Branching for Chain {
+    // The one branch's slot.
+    type Turn = usize;
+
+    type Slots = ();
+
+    ghost layout = { λ s. chain_layout s.size };
+
+    ghost placed = { λ s slot. slot < s.size };
+
+    ghost place = { λ slot nothing. record { branch = 0; slots = slot ∷ [] } };
+
+    fn cells(self) -> usize {
+        self.size
     }
-    slot
+
+    fn visit(self, turn: &mut usize, _slots: &mut ()) -> Option<usize> {
+        let slot = *turn;
+        *turn = following(slot, self.size);
+        Some(slot)
+    }
 }
 
 impl PlainDelay {
@@ -48,10 +58,7 @@ impl PlainDelay {
             (λ _. PlainCleared zero self.old cells.old self.new cells.new)
             (λ _. (self.new ≡ self.old) × (cells.new ≡ cells.old)) }
     {
-        if cells.len() != self.size {
-            return Err(Refusal::WrongLength);
-        }
-        fill(cells, zero);
+        clear(Chain { size: self.size }, cells, zero)?;
         self.slot = 0;
         Ok(())
     }
@@ -63,12 +70,8 @@ impl PlainDelay {
             (λ y. PlainPushed self.old cells.old x y self.new cells.new)
             (λ e. (e ≡ WrongLength) × (self.new ≡ self.old) × (cells.new ≡ cells.old)) }
     {
-        if cells.len() != self.size {
-            return Err(Refusal::WrongLength);
-        }
-        let y = exchange(cells, self.slot, x);
-        self.slot = following(self.slot, self.size);
-        Ok(y)
+        let chain = Chain { size: self.size };
+        push(chain, &mut self.slot, &mut (), cells, x)
     }
 
     // Takes the elements of `part` in, one after the other, and puts in place of each the one that leaves for it.
@@ -78,10 +81,7 @@ impl PlainDelay {
             (λ _. PlainPassed self.old cells.old part.old part.new self.new cells.new)
             (λ _. (self.new ≡ self.old) × (cells.new ≡ cells.old) × (part.new ≡ part.old)) }
     {
-        if cells.len() != self.size {
-            return Err(Refusal::WrongLength);
-        }
-        self.slot = shift_all(self.size, self.slot, cells, part);
-        Ok(())
+        let chain = Chain { size: self.size };
+        pass(chain, &mut self.slot, &mut (), cells, part)
     }
 }

@@ -1,6 +1,6 @@
 use Rattle.std.proofs.Common.{ℕ, ◌+◌, ◌%◌, ◌<◌, sym, ap, ◌∙◌, mod-eq_of_lt, arith}
 use native.Mathlib.Nat.{mod_self}
-use Rattle.delay.proofs.branches.following.Goals as goal
+use Rattle.delay.proofs.ring.following.Goals as goal
 
 pub returns-then-n-size : goal.returns-then-n-size
 returns-then-n-size c = sym (ap (λ (k : ℕ). k % c.args.size) c.if-n-size.true ∙ mod_self c.args.size)

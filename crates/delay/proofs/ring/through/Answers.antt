@@ -1,0 +1,15 @@
+use Rattle.std.proofs.Common.{arith}
+use Rattle.delay.proofs.Step.{took_none, took_some}
+use Rattle.delay.proofs.ring.through.Goals as goal
+
+pub returns-in-Some-clause-took : goal.returns-in-Some-clause-took
+returns-in-Some-clause-took g c =
+    let s = g.S.Branching in
+    rw c.replace.ensures.after (took_some (s.layout c.args.shape) c.visit.ensures.sound (s.place c.args.turn.now c.args.slots.now) c.requires.stands c.visit.result (s.place c.visit.new.turn c.visit.new.slots)
+    c.visit.ensures.visited c.args.cells.now c.args.x c.in-Some.cell c.replace.result c.in-Some.is (cc) (omega arith))
+
+pub returns-in-None-clause-took : goal.returns-in-None-clause-took
+returns-in-None-clause-took g c =
+    let s = g.S.Branching in
+    took_none (s.layout c.args.shape) c.visit.ensures.sound (s.place c.args.turn.now c.args.slots.now) c.requires.stands c.visit.result (s.place c.visit.new.turn c.visit.new.slots)
+    c.visit.ensures.visited c.args.cells.now c.args.x c.in-None.is
