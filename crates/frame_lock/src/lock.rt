@@ -28,7 +28,7 @@ fn following(place: u16) -> u16
     ensures value { result ≡ place_after place }
     ensures inside { result < 624 }
 {
-    if place + 1 == FRAME { 0 } else { place + 1 }
+    (place + 1) % FRAME
 }
 
 impl FrameLock {
