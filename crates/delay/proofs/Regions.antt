@@ -1,5 +1,5 @@
 -- The branches' cells: where they lie, and how many they are together.
-use Rattle.std.proofs.Common.{◌≡◌, ℕ, zero, suc, ◌+◌, ◌-◌, ◌*◌, ◌/◌, ◌%◌, ◌<◌, ◌≤◌, leb, ◌⊎◌, sym, ap, ◌∙◌, inl, inr, ⊎_elim, mod-eq_of_lt, mul-le-mul, mul-zero, zero-add, mul-one, mul-add, add-one, arith, leb→le}
+use Rattle.std.proofs.Common.{◌≡◌, ℕ, zero, suc, ◌+◌, ◌-◌, ◌*◌, ◌/◌, ◌<◌, ◌≤◌, leb, sym, ap, ◌∙◌, inl, inr, ⊎_elim, mul-le-mul, mul-zero, zero-add, mul-add, arith, leb→le}
 use native.Mathlib.Nat.{sub-zero}
 use Rattle.tables.proofs.All.{agree, below}
 use Rattle.std.proofs.lemmas.Bool.{cases_order, cases_lt}
@@ -7,9 +7,8 @@ use Rattle.delay.specs.Sizes.{size_of, first_cell, memory_size}
 use Rattle.delay.specs.declared.branches.Direction.{Direction}
 use Rattle.delay.specs.declared.branches.Direction.TheVariants.{Interleave, Deinterleave}
 use Rattle.delay.specs.declared.branches.Shape.{Shape}
-use Rattle.delay.specs.declared.branches.Turn.{Turn}
 use Rattle.delay.specs.Ring.{Apart, Sound, chain_layout}
-use Rattle.delay.specs.Branches.{turn_of, cells_of, sizes, firsts, layout_of}
+use Rattle.delay.specs.Branches.{sizes, firsts, layout_of}
 
 -- 0 + 1 + .. + (n - 1)
 abbrev tri : ℕ → ℕ
@@ -77,53 +76,13 @@ pub memory_small : (b s : ℕ) → b ≤ 255 → s ≤ 255 → memory_size b s �
 memory_small b s l m = mul-le-mul m (pairs_small b l)
 
 -- The same of a shape.
-pub turn_within : (s : Shape) (j : ℕ) → j < s.branches → firsts s j + sizes s j ≤ cells_of s
-turn_within s j l = within s.direction s.branches s.step j s.few l
-
--- A turn has its branch's size, and its cells end where a number can tell.
-pub turn_fits : (s : Shape) (t : Turn) → t.branch < s.branches → t ≡ turn_of s t.branch → (t.size ≡ sizes s t.branch) × (t.first + t.size ≤ 8258175)
-turn_fits s t l e =
-    let w = turn_within s t.branch l in
-    let c = memory_small s.branches s.step s.few s.short in
-    let f : t.first ≡ firsts s t.branch = ap (λ (u : Turn). u.first) e in
-    let g : t.size ≡ sizes s t.branch = ap (λ (u : Turn). u.size) e in
-    (g, omega arith)
+pub turn_few : (s : Shape) (j : ℕ) → j < s.branches → firsts s j + sizes s j ≤ 8258175
+turn_few s j l = let w = within s.direction s.branches s.step j s.few l in let m = memory_small s.branches s.step s.few s.short in omega arith
 
 pub sound_of : (s : Shape) → Sound (layout_of s)
-sound_of s = record { some = s.some; apart = apart s.direction s.branches s.step; within = turn_within s }
+sound_of s = record { some = s.some; apart = apart s.direction s.branches s.step; within = λ j l. within s.direction s.branches s.step j s.few l }
 
 -- The one branch of a plain delay.
 pub chain_sound : (n : ℕ) → Sound (chain_layout n)
 unfolding Apart
 chain_sound n = record { some = omega arith; apart = λ i j p q e. absurd (e (omega arith)); within = λ j l. omega arith }
-
--- One branch on.
-size_up : (b s j : ℕ) → size_of Interleave b s j + s ≡ size_of Interleave b s (j + 1)
-size_up b s j = let e = mul-add s j 1 in omega (arith, mul-one s)
-
-size_down : (b s j : ℕ) → j + 1 < b → size_of Deinterleave b s j ≡ s + size_of Deinterleave b s (j + 1)
-size_down b s j l =
-    let f : b - 1 - j ≡ (b - 1 - (j + 1)) + 1 = omega arith in
-    let g : s * (b - 1 - j) ≡ s * ((b - 1 - (j + 1)) + 1) = ap (λ (n : ℕ). s * n) f in
-    let e = mul-add s (b - 1 - (j + 1)) 1 in
-    omega (arith, mul-one s)
-
--- The size of the next branch, as the code has it from this one's.
-pub next_size : (d : Direction) (b s j n : ℕ) → j + 1 < b → ((d ≡ Interleave) × (n ≡ size_of d b s j + s)) ⊎ ((d ≡ Deinterleave) × (n ≡ size_of d b s j - s)) → n ≡ size_of d b s (j + 1)
-next_size Interleave b s j n l (inl e) = let f = size_up b s j in e.1 ∙ f
-next_size Interleave b s j n l (inr e) = let q : ◌≡◌ {A = ℕ} 0 1 = cc e.0 in absurd (omega arith)
-next_size Deinterleave b s j n l (inl e) = let q : ◌≡◌ {A = ℕ} 0 1 = cc e.0 in absurd (omega arith)
-next_size Deinterleave b s j n l (inr e) = let f = size_down b s j l in let g = e.1 in omega arith
-
--- A step fits into a branch that is not the last.
-pub step_fits : (b s j : ℕ) → j + 1 < b → s ≤ size_of Deinterleave b s j
-step_fits b s j l = let f = size_down b s j l in omega arith
-
--- The turn after one that is not the last.
-pub next_turn : (s : Shape) (t : Turn) (n : ℕ) → t.branch + 1 < s.branches → t ≡ turn_of s t.branch → n ≡ sizes s (t.branch + 1)
-    → ◌≡◌ {A = Turn} (record { branch = t.branch + 1; first = t.first + t.size; size = n }) (turn_of s ((t.branch + 1) % s.branches))
-next_turn s t n l e f =
-    let g : t.first ≡ firsts s t.branch = ap (λ (u : Turn). u.first) e in
-    let k : t.size ≡ sizes s t.branch = ap (λ (u : Turn). u.size) e in
-    let m : t.first + t.size ≡ firsts s (t.branch + 1) = rw (g, k, add-one t.branch) in
-    rw (mod-eq_of_lt l, m, f)

@@ -3,7 +3,6 @@ use Rattle.std.specs.Prelude.{ℕ, ◌<◌, List, slice_index}
 use Rattle.delay.specs.Ring.{Layout}
 use Rattle.delay.specs.Sizes.{size_of, first_cell, memory_size}
 use Rattle.delay.specs.declared.branches.Shape.{Shape}
-use Rattle.delay.specs.declared.branches.Turn.{Turn}
 
 -- The cells of branch j.
 abbrev pub sizes : Shape → ℕ → ℕ
@@ -16,10 +15,6 @@ firsts s j = first_cell s.direction s.branches s.step j
 -- The cells of all branches.
 abbrev pub cells_of : Shape → ℕ
 cells_of s = memory_size s.branches s.step
-
--- The turn of branch j.
-abbrev pub turn_of : Shape → ℕ → Turn
-turn_of s j = record { branch = j; first = firsts s j; size = sizes s j }
 
 -- How the cells are divided.
 abbrev pub layout_of : Shape → Layout

@@ -22,10 +22,17 @@ pub(crate) struct Shape {
     ghost short: { step ≤ 255 },
 }
 
-// The branch whose turn it is, its first cell and how many cells it has.
+// The branch whose turn it is, and its first cell.
 #[derive(Clone, Copy)]
 pub(crate) struct Turn {
     pub(crate) branch: usize,
     pub(crate) first: usize,
-    pub(crate) size: usize,
+}
+
+impl Turn {
+    // The first branch's turn.
+    pub(crate) const START: Turn = Turn {
+        branch: 0,
+        first: 0,
+    };
 }

@@ -1,6 +1,6 @@
 // The delay memory's own state: its branches and where each of them stands. Its cells are lent at each call.
 ghost use Rattle.std.specs.Prelude.{◌≡◌, ◌<◌};
-ghost use Rattle.delay.specs.Branches.{Fit, turn_of};
+ghost use Rattle.delay.specs.Branches.{Fit, firsts};
 
 use super::branches::{Shape, Turn};
 
@@ -13,6 +13,6 @@ pub struct Delay {
     turn: Turn,
     slots: [u16; 255],
     ghost inside: { turn.branch < shape.branches },
-    ghost placed: { turn ≡ turn_of shape turn.branch },
+    ghost placed: { turn.first ≡ firsts shape turn.branch },
     ghost fit: { Fit shape slots },
 }

@@ -9,30 +9,32 @@ use std::mem;
 
 // How a memory's cells are divided into branches, and which of them each turn falls on.
 pub(crate) trait Branching: Copy {
-    // Whose turn it is.
+    // Whose turn it is. Apart from the slots, so that `pass` has it in a local variable, which is faster.
     type Turn: Copy;
 
-    // What else says where each branch stands.
+    // The slots of the branches.
     type Slots;
 
+    // How the cells are divided.
     ghost layout: { Self → Layout };
 
-    // Where a turn belongs to the layout.
+    // That a turn is one of this layout.
     ghost placed: { Self → Self.Turn → Type 0 };
 
+    // Where a turn and slots stand.
     ghost place: { Self.Turn → Self.Slots → Place };
 
-    // The cells of all branches.
+    // The cells of all branches, which lie apart in them.
     fn cells(self) -> usize
-        ensures { result ≡ (layout self).cells };
+        ensures cells { result ≡ (layout self).cells }
+        ensures sound { Sound (layout self) };
 
     // Takes one turn: gives the cell that the element changes places with, and none where it leaves at once.
     fn visit(self, turn: &mut Self::Turn, slots: &mut Self::Slots) -> Option<usize>
         requires placed { placed self turn.old }
         requires stands { Stands (layout self) (place turn.old slots.old) }
         ensures placed { placed self turn.new }
-        ensures visited { Visited (layout self) (place turn.old slots.old) result (place turn.new slots.new) }
-        ensures sound { Sound (layout self) };
+        ensures visited { Visited (layout self) (place turn.old slots.old) result (place turn.new slots.new) };
 }
 
 // Refuses cells that are not as many as are needed.
@@ -46,24 +48,24 @@ fn whole(cells: usize, needed: usize) -> Result<(), Refusal>
     }
 }
 
-// Takes `x` in at its turn, and gives the element that leaves for it.
+// Takes `x` in at its turn, and puts in its place the element that leaves for it.
 fn through<S: Branching, T: Copy>(
     shape: S,
     turn: &mut S::Turn,
     slots: &mut S::Slots,
     cells: &mut [T],
-    x: T,
-) -> T
+    x: &mut T,
+)
     requires placed { S.placed shape turn.old }
     requires stands { Stands (S.layout shape) (S.place turn.old slots.old) }
+    requires sound { Sound (S.layout shape) }
     requires whole { length cells.old ≡ (S.layout shape).cells }
     ensures placed { S.placed shape turn.new }
     ensures stands { Stands (S.layout shape) (S.place turn.new slots.new) }
-    ensures took { Took (S.layout shape) (S.place turn.old slots.old) cells.old x result (S.place turn.new slots.new) cells.new }
+    ensures took { Took (S.layout shape) (S.place turn.old slots.old) cells.old x.old x.new (S.place turn.new slots.new) cells.new }
 {
-    match shape.visit(turn, slots) {
-        Some(cell) => mem::replace(&mut cells[cell], x),
-        None => x,
+    if let Some(cell) = shape.visit(turn, slots) {
+        mem::swap(&mut cells[cell], x);
     }
 }
 
@@ -85,7 +87,9 @@ pub(crate) fn push<S: Branching, T: Copy>(
         (λ e. (e ≡ WrongLength) × (turn.new ≡ turn.old) × (slots.new ≡ slots.old) × (cells.new ≡ cells.old)) }
 {
     whole(cells.len(), shape.cells())?;
-    Ok(through(shape, turn, slots, cells, x))
+    let mut y = x;
+    through(shape, turn, slots, cells, &mut y);
+    Ok(y)
 }
 
 // Takes the elements of `part` in, one after the other, and puts in place of each the one that leaves for it.
@@ -108,7 +112,7 @@ pub(crate) fn pass<S: Branching, T: Copy>(
     whole(cells.len(), shape.cells())?;
     let mut now = *turn;
     for x in part.iter_mut() {
-        *x = through(shape, &mut now, slots, cells, *x);
+        through(shape, &mut now, slots, cells, x);
     }
     *turn = now;
     Ok(())
@@ -126,14 +130,14 @@ pub(crate) fn clear<S: Branching, T: Copy>(
         (λ _. cells.new ≡ cells.old) }
 {
     whole(cells.len(), shape.cells())?;
-    // Not by `fill`, which asks for clones that equal their values: of a `Copy` type that is not known.
+    // Not by `fill`: it clones, and nothing says that a clone of a `Copy` value is that value.
     for cell in cells.iter_mut() {
         *cell = zero;
     }
     Ok(())
 }
 
-// The next number of a cycle of `size`.
+// The next number of a cycle of `size`. By a test, since the remainder takes a division, which is longer than the rest of a turn.
 pub(crate) fn following(n: usize, size: usize) -> usize
     requires { n < size }
     ensures { result ≡ (n + 1) % size }

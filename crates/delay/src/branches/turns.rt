@@ -1,43 +1,36 @@
 // The turns of the branches.
 ghost use Rattle.std.specs.Prelude.{◌≡◌, ◌+◌, ◌%◌, ◌<◌};
-ghost use Rattle.delay.specs.Branches.{cells_of, turn_of, layout_of};
+ghost use Rattle.delay.specs.Branches.{firsts, sizes, layout_of};
 
 use super::{Direction, Shape, Turn};
 use crate::ring::{Branching, following};
 
 impl Shape {
-    // The first branch's turn.
-    pub(crate) fn start(self) -> Turn
-        ensures { result ≡ turn_of self 0 }
+    // The cells of a branch.
+    fn size(self, branch: usize) -> usize
+        requires { branch < self.branches }
+        ensures { result ≡ sizes self branch }
     {
-        let size = match self.direction {
-            Direction::Interleave => 0,
-            Direction::Deinterleave => self.step * (self.branches - 1),
-        };
-        Turn {
-            branch: 0,
-            first: 0,
-            size,
+        match self.direction {
+            Direction::Interleave => self.step * branch,
+            Direction::Deinterleave => self.step * (self.branches - 1 - branch),
         }
     }
 
     // The turn after a turn.
     fn next(self, turn: Turn) -> Turn
         requires inside { turn.branch < self.branches }
-        requires placed { turn ≡ turn_of self turn.branch }
-        ensures { result ≡ turn_of self ((turn.branch + 1) % self.branches) }
+        requires placed { turn.first ≡ firsts self turn.branch }
+        ensures branch { result.branch ≡ (turn.branch + 1) % self.branches }
+        ensures placed { result.first ≡ firsts self result.branch }
     {
-        if turn.branch + 1 == self.branches {
-            return self.start();
+        let branch = turn.branch + 1;
+        if branch == self.branches {
+            return Turn::START;
         }
-        let size = match self.direction {
-            Direction::Interleave => turn.size + self.step,
-            Direction::Deinterleave => turn.size - self.step,
-        };
         Turn {
-            branch: turn.branch + 1,
-            first: turn.first + turn.size,
-            size,
+            branch,
+            first: turn.first + self.size(turn.branch),
         }
     }
 }
@@ -49,7 +42,7 @@ impl Branching for Shape {
 
     ghost layout = { layout_of };
 
-    ghost placed = { λ s t. t ≡ turn_of s t.branch };
+    ghost placed = { λ s t. t.first ≡ firsts s t.branch };
 
     ghost place = { λ t slots. record { branch = t.branch; slots = slots } };
 
@@ -58,13 +51,14 @@ impl Branching for Shape {
     }
 
     fn visit(self, turn: &mut Turn, slots: &mut [u16; 255]) -> Option<usize> {
-        let now = *turn;
-        *turn = self.next(now);
-        if now.size == 0 {
+        let Turn { branch, first } = *turn;
+        *turn = self.next(*turn);
+        let size = self.size(branch);
+        if size == 0 {
             return None;
         }
-        let slot = slots[now.branch] as usize;
-        slots[now.branch] = following(slot, now.size) as u16;
-        Some(now.first + slot)
+        let slot = slots[branch] as usize;
+        slots[branch] = following(slot, size) as u16;
+        Some(first + slot)
     }
 }

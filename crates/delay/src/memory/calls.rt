@@ -5,7 +5,7 @@ ghost use Rattle.delay.specs.Branches.{cells_of};
 ghost use Rattle.delay.specs.State.{Sized, Fresh, Made, Cleared, Pushed, Passed, length_answer};
 
 use super::Delay;
-use crate::branches::{Direction, Shape};
+use crate::branches::{Direction, Shape, Turn};
 use crate::ring::{Branching, clear, pass, push};
 use refusal::Refusal;
 
@@ -55,14 +55,14 @@ impl Delay {
             (λ d. Sized branches step × Made branches step direction d)
             (λ e. (Sized branches step → ⊥) × (e ≡ WrongLength)) }
     {
-        if branches == 0 || branches > 255 || step == 0 || step > 255 {
-            return Err(Refusal::WrongLength);
+        match (branches, step) {
+            (1..=255, 1..=255) => Ok(Delay::fresh(Shape {
+                branches,
+                step,
+                direction,
+            })),
+            _ => Err(Refusal::WrongLength),
         }
-        Ok(Delay::fresh(Shape {
-            branches,
-            step,
-            direction,
-        }))
     }
 
     // A memory of this shape that has taken nothing in.
@@ -72,7 +72,7 @@ impl Delay {
     {
         Delay {
             shape,
-            turn: shape.start(),
+            turn: Turn::START,
             slots: [0; 255],
         }
     }
