@@ -1,9 +1,8 @@
 -- What the calls of a ring leave, from what one turn does.
-use Rattle.std.proofs.Common.{◌≡◌, ℕ, ◌+◌, ◌/◌, ◌%◌, ◌<◌, ◌≤◌, ◌≢◌, List, [], ◌∷◌, ◌++◌, length, get_or, take, set, replicate, sym, refl, ap, ◌∙◌, ⊎_elim, append_assoc, mod-eq_of_lt, arith}
+use Rattle.std.proofs.Common.{◌≡◌, ℕ, ◌+◌, ◌%◌, ◌<◌, ◌≤◌, ◌≢◌, List, [], ◌∷◌, ◌++◌, length, get_or, take, set, replicate, sym, ◌∙◌, append_assoc, mod-eq_of_lt, arith}
 use native.Mathlib.Nat.{div-eq_of_lt}
-use Rattle.std.proofs.lemmas.List.{take_more, take_more_set, length-append, append-nil, get_or_append_left, get_or_push, length_push, get_or-set_other, get_or-replicate, get_or_past, length-replicate, length-set}
-use Rattle.std.proofs.lemmas.Bool.{cases_lt}
-use Rattle.delay.specs.Ring.{Ring, Layout, Place, Took, Ran, delayed, cell}
+use Rattle.std.proofs.lemmas.List.{take_more, take_more_set, length-append, get_or_append_left, get_or_push, length_push, get_or-set_other, get_or-replicate, get_or_past, length-replicate, length-set}
+use Rattle.delay.specs.Ring.{Ring, Layout, Place, Took, Ran, cell}
 use Rattle.delay.specs.Branches.{Fit, sizes, firsts}
 use Rattle.delay.specs.State.{Cleared, Fresh, PlainCleared}
 use Rattle.delay.specs.Laws.{ClearAt, PlainClearAt}
@@ -13,10 +12,6 @@ use Rattle.delay.specs.declared.plain.PlainDelay.{PlainDelay}
 use Rattle.delay.proofs.Delayed.{delayed_empty, delayed_more}
 
 module _ {X : Type 0} (l : Layout) (p : Place) (cells : List X) where
-  -- No element.
-  ran_none : Ran l p cells [] [] p cells
-  ran_none = record { same_length = refl; run = λ z h ring. ((λ k q. absurd (omega arith)), rw (append-nil h) ring) }
-
   -- The elements xs, and then one more.
   ran_more : (xs ys : List X) (x r : X) (p₁ : Place) (c₁ : List X) (p₂ : Place) (c₂ : List X)
       → Ran l p cells xs ys p₁ c₁ → Took l p₁ c₁ x r p₂ c₂ → Ran l p cells (xs ++ x ∷ []) (ys ++ r ∷ []) p₂ c₂
@@ -32,10 +27,7 @@ module _ {X : Type 0} (l : Layout) (p : Place) (cells : List X) where
             let n = length-append h xs in
             let a = append_assoc h xs (x ∷ []) in
             let left = delayed_more z l.branches l.size (h ++ xs) (x ∷ []) in (
-              (λ k m. ⊎_elim
-                  (λ (j : k < length xs). get_or_append_left ys (r ∷ []) z k (omega arith) ∙ (q.0 k j ∙ (sym (left (length h + k) (omega arith)) ∙ ap (λ (g : List X). delayed z l.branches l.size g (length h + k)) a)))
-                  (λ (j : length xs ≤ k). get_or_push ys r z k (omega arith) ∙ (u.0 ∙ rw a (ap (delayed z l.branches l.size (h ++ (xs ++ x ∷ []))) (omega arith))))
-                  (cases_lt k (length xs))),
+              (λ k m. grind (arith, a, q.0 k, u.0, left (length h + k), get_or_append_left ys (r ∷ []) z k, get_or_push ys r z k)),
               rw (← a) u.1,
             );
       }
@@ -46,15 +38,12 @@ module _ {X : Type 0} (l : Layout) (p : Place) (cells : List X) where
     pub rest : (k : ℕ) (z : X) → i ≤ k → get_or ys k z ≡ get_or xs k z
     pub ran : Ran l p cells (take i xs) (take i ys) p' cells'
 
-  pub running_none : (xs : List X) → Running xs 0 p cells xs
-  running_none xs = record { same_length = refl; rest = λ k z q. refl; ran = ran_none }
-
   -- One element more.
   pub running_more : (xs : List X) (i : ℕ) (p₁ : Place) (c₁ ys : List X) (x r : X) (p₂ : Place) (c₂ : List X)
       → i < length ys → ((z : X) → x ≡ get_or ys i z) → Took l p₁ c₁ x r p₂ c₂ → Running xs i p₁ c₁ ys → Running xs (i + 1) p₂ c₂ (set ys i r)
   running_more xs i p₁ c₁ ys x r p₂ c₂ q is took f =
       let n = f.same_length in
-      let a : take (i + 1) xs ≡ take i xs ++ x ∷ [] = take_more xs i x (omega arith) ∙ ap (λ (y : X). take i xs ++ y ∷ []) (sym (is x ∙ f.rest i x (omega arith))) in
+      let a : take (i + 1) xs ≡ take i xs ++ x ∷ [] = grind (arith, take_more xs i x, is x, f.rest i x) in
       let b = take_more_set ys i r q in
       record {
         same_length = length-set ys i r ∙ n;
@@ -64,13 +53,13 @@ module _ {X : Type 0} (l : Layout) (p : Place) (cells : List X) where
 
 -- A cell of a list that is z all over.
 get_or_clear : {X : Type 0} (z : X) (n k : ℕ) → get_or (replicate n z) k z ≡ z
-get_or_clear z n k = ⊎_elim (λ (l : k < n). get_or-replicate n k z z l) (λ (l : n ≤ k). get_or_past (replicate n z) k z (simp length-replicate l)) (cases_lt k n)
+get_or_clear z n k = grind (arith, get_or-replicate n k z z, get_or_past (replicate n z) k z, length-replicate n z)
 
 -- Nothing has come into a ring whose cells are all z and whose branches are at their first slots.
 pub ring_clear : {X : Type 0} (z : X) (b : ℕ) (S L : ℕ → ℕ) (slots : List ℕ) (n : ℕ) → 0 < b → ((k : ℕ) → get_or slots k 0 ≡ 0) → Ring z [] b S L 0 slots (replicate n z)
 ring_clear z b S L slots n p e = record {
   branch_is = sym (mod-eq_of_lt p);
-  slot_is = λ i a c q. let d : i / b ≡ 0 = div-eq_of_lt (omega arith) in e (i % b) ∙ sym (ap (λ (k : ℕ). k % L (i % b)) d ∙ mod-eq_of_lt q);
+  slot_is = λ i a c q. grind (arith, e (i % b), div-eq_of_lt {n = i} {m = b}, mod-eq_of_lt {n = 0} {m = L (i % b)});
   held = λ i a c. get_or_clear z n (cell b S L i) ∙ sym (delayed_empty z b L i);
 }
 

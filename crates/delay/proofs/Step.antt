@@ -2,7 +2,7 @@
 use Rattle.std.proofs.Common.{◌≡◌, ℕ, ◌+◌, ◌*◌, ◌/◌, ◌%◌, ◌<◌, ◌≤◌, ◌≢◌, List, [], ◌∷◌, ◌++◌, length, get_or, set, Some, None, Option, sym, ap, ◌∙◌, subst, ⊎_elim, mod-lt, mul-pos, mul-zero, mul-one, arith}
 use native.Mathlib.Nat.{add-div_right, add-mod_right, mod-add-mod}
 use Rattle.std.proofs.lemmas.List.{length_push, get_or_read, get_or-set_same, get_or-set_other}
-use Rattle.std.proofs.lemmas.Bool.{cases_eq, cases_lt}
+use Rattle.std.proofs.lemmas.Bool.{cases_eq}
 use Rattle.delay.specs.Ring.{delayed, cell, Apart, Ring, Layout, Place, Sound, Stands, Visited, Took}
 use Rattle.delay.proofs.Delayed.{delayed_more, delayed_last}
 use Rattle.delay.proofs.Cells.{same_branch, cells_apart, last_cell}
@@ -25,22 +25,8 @@ module _ {X : Type 0} (z : X) (b : ℕ) (S L : ℕ → ℕ) (p : 0 < b) (apart :
         sym (delayed_last z b L h x (length h) (rw e (omega (arith, mul-zero b)))),
         record {
           branch_is = next_branch;
-          slot_is = λ i l m q. ⊎_elim
-              (λ (k : i < length h + b). before.slot_is i (omega arith) k q)
-              (λ (k : length h + b ≤ i).
-              let f : i ≡ length h + b = omega arith in
-              let a : i % b ≡ length h % b = ap (λ (t : ℕ). t % b) f ∙ add-mod_right (length h) b in
-              let u : 0 < L (length h % b) = subst (λ (t : ℕ). 0 < L t) a q in
-              absurd (omega arith))
-              (cases_lt i (length h + b));
-          held = λ i a c. ⊎_elim
-              (λ (m : i ≡ length h + b * L (i % b)).
-              let k = last_cell b S L p (length h) i m in
-              let f : L (i % b) ≡ 0 = rw k.0 e in
-              let v : b * L (i % b) ≡ 0 = rw f (mul-zero b) in
-              absurd (omega arith))
-              (λ (m : i ≢ length h + b * L (i % b)). before.held i (omega arith) (omega arith) ∙ sym (delayed_more z b L h (x ∷ []) i (omega arith)))
-              (cases_eq i (length h + b * L (i % b)));
+          slot_is = λ i l m q. grind (arith, before.slot_is i, add-mod_right (length h) b);
+          held = λ i a c. grind (arith, last_cell b S L p (length h) i, before.held i, delayed_more z b L h (x ∷ []) i, mul-zero b);
         },
       )
 
@@ -77,26 +63,17 @@ module _ {X : Type 0} (z : X) (b : ℕ) (S L : ℕ → ℕ) (p : 0 < b) (apart :
     slots_after i l m q =
         let next : ℕ = (get_or slots branch 0 + 1) % L branch in
         let nb = mod-lt (length h) p in
-        let g : get_or (set slots branch next) (i % b) 0 ≡ get_or (set slots (length h % b) next) (i % b) 0 = ap (λ (k : ℕ). get_or (set slots k next) (i % b) 0) before.branch_is in
-        ⊎_elim
-        (λ (k : i < length h + b). g ∙ (get_or-set_other slots (length h % b) (i % b) next 0 (other i (omega arith) k) ∙ before.slot_is i (omega arith) k q))
-        (λ (k : length h + b ≤ i).
-        let f : i ≡ length h + b = omega arith in
-        let a : i % b ≡ length h % b = ap (λ (t : ℕ). t % b) f ∙ add-mod_right (length h) b in
-        let d : i / b ≡ length h / b + 1 = ap (λ (t : ℕ). t / b) f ∙ add-div_right (length h) p in
-        g ∙ (ap (λ (t : ℕ). get_or (set slots (length h % b) next) t 0) a ∙ (get_or-set_same slots (length h % b) next 0 (omega arith) ∙ (slot_next ∙ (ap (λ (t : ℕ). t % L (length h % b)) (sym d) ∙ ap (λ (t : ℕ). i / b % L t) (sym a))))))
-        (cases_lt i (length h + b))
+        let w = slot_next in
+        let e = before.branch_is in
+        grind (arith, other i, before.slot_is i, get_or-set_other slots branch (i % b) next 0, get_or-set_same slots branch next 0, add-mod_right (length h) b, add-div_right (length h) p)
 
     held_after : (i : ℕ) → length h + 1 ≤ i → i < length h + 1 + b * L (i % b) → get_or (set cells (cell b S L (length h)) x) (cell b S L i) z ≡ delayed z b L (h ++ x ∷ []) i
-    held_after i a c = ⊎_elim
-        (λ (m : i ≡ length h + b * L (i % b)).
-        let k = last_cell b S L p (length h) i m in
-        rw (k.1, get_or-set_same cells (cell b S L (length h)) x z here_within) (sym (delayed_last z b L h x i m)))
-        (λ (m : i ≢ length h + b * L (i % b)).
-        let li : 0 < L (i % b) = ⊎_elim (λ (q : 0 < L (i % b)). q) (λ (q : L (i % b) ≤ 0). let y : L (i % b) ≡ 0 = omega arith in let v : b * L (i % b) ≡ 0 = rw y (mul-zero b) in absurd (omega arith)) (cases_lt 0 (L (i % b))) in
-        let o : cell b S L i ≢ cell b S L (length h) = λ q. cells_apart b S L p apart (length h) i (omega arith) (omega arith) here_some li q in
-        get_or-set_other cells (cell b S L (length h)) (cell b S L i) x z o ∙ (before.held i (omega arith) (omega arith) ∙ sym (delayed_more z b L h (x ∷ []) i (omega arith))))
-        (cases_eq i (length h + b * L (i % b)))
+    held_after i a c =
+        let w = here_within in
+        let n : ℕ = cell b S L (length h) in
+        let one = last_cell b S L p (length h) i in
+        let two : L (i % b) ≢ 0 → i ≢ length h + b * L (i % b) → cell b S L i ≢ n = λ f m e. cells_apart b S L p apart (length h) i (omega arith) (omega arith) here_some (omega arith) e in
+        grind (arith, one, two, before.held i, get_or-set_same cells n x z, get_or-set_other cells n (cell b S L i) x z, delayed_last z b L h x i, delayed_more z b L h (x ∷ []) i, mul-zero b)
 
     -- A branch with cells.
     pub step_some : (get_or cells (S branch + get_or slots branch 0) z ≡ delayed z b L (h ++ x ∷ []) (length h))
