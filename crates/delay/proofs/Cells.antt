@@ -1,5 +1,5 @@
 -- Two outputs that wait have two cells, where the branches' cells lie apart.
-use Rattle.std.proofs.Common.{◌≡◌, ℕ, ◌+◌, ◌*◌, ◌/◌, ◌%◌, ◌<◌, ap, ◌∙◌, mod-lt, mul-le-mul_left, mul-add, arith}
+use Rattle.std.proofs.Common.{◌≡◌, ℕ, ◌+◌, ◌*◌, ◌/◌, ◌%◌, ◌<◌, ap, mod-lt, mul-le-mul_left, mul-add, arith}
 use native.Mathlib.Nat.{div-add-mod, add-mul-div_left, add-mul-mod_self_left, add-mod_right}
 use Rattle.std.proofs.lemmas.Bool.{cases_order}
 use Rattle.delay.specs.Ring.{cell, Apart}
@@ -34,7 +34,7 @@ cells_apart b S L p ap n i q r ln li e =
 pub last_cell : (b : ℕ) (S L : ℕ → ℕ) → 0 < b → (n i : ℕ) → i ≡ n + b * L (i % b) → (i % b ≡ n % b) × (cell b S L i ≡ cell b S L n)
 unfolding cell
 last_cell b S L p n i e =
-    let m : i % b ≡ n % b = ap (λ (k : ℕ). k % b) e ∙ add-mul-mod_self_left n b (L (i % b)) in
-    let d : i / b ≡ n / b + L (i % b) = ap (λ (k : ℕ). k / b) e ∙ add-mul-div_left n (L (i % b)) p in
-    let r : i / b % L (i % b) ≡ n / b % L (i % b) = ap (λ (k : ℕ). k % L (i % b)) d ∙ add-mod_right (n / b) (L (i % b)) in
-    (m, ap (λ (k : ℕ). S (i % b) + k) r ∙ ap (λ (j : ℕ). S j + n / b % L j) m)
+    let m = add-mul-mod_self_left n b (L (i % b)) in
+    let d = add-mul-div_left n (L (i % b)) p in
+    let r = add-mod_right (n / b) (L (i % b)) in
+    (grind arith, grind arith)

@@ -1,5 +1,5 @@
 -- The branches' cells: where they lie, and how many they are together.
-use Rattle.std.proofs.Common.{◌≡◌, ℕ, zero, suc, ◌+◌, ◌-◌, ◌*◌, ◌/◌, ◌<◌, ◌≤◌, leb, sym, ap, ◌∙◌, inl, inr, ⊎_elim, mul-le-mul, mul-zero, zero-add, mul-add, arith, leb→le}
+use Rattle.std.proofs.Common.{◌≡◌, ℕ, zero, suc, ◌+◌, ◌-◌, ◌*◌, ◌/◌, ◌<◌, ◌≤◌, leb, sym, ap, ◌∙◌, ⊎_elim, mul-le-mul, mul-zero, zero-add, mul-add, arith, leb→le}
 use native.Mathlib.Nat.{sub-zero}
 use Rattle.tables.proofs.All.{agree, below}
 use Rattle.std.proofs.lemmas.Bool.{cases_order, cases_lt}
@@ -31,26 +31,24 @@ regions d b s i (suc j) l =
 -- So the branches' cells lie apart.
 pub apart : (d : Direction) (b s : ℕ) → Apart b (first_cell d b s) (size_of d b s)
 unfolding Apart
-apart d b s i j p q n =
-    ⊎_elim (λ (e : i ≡ j). absurd (n e))
-    (⊎_elim (λ (l : i < j). inl (regions d b s i j l)) (λ (l : j < i). inr (regions d b s j i l)))
-    (cases_order i j)
+apart d b s i j p q n = grind (arith, cases_order i j, regions d b s i j, regions d b s j i)
 
 -- The first cell of a branch in each direction, and the end of the last.
 first_up : (b s j : ℕ) → first_cell Interleave b s j ≡ s * tri j
 first_up b s zero = sym (mul-zero s)
 first_up b s (suc j) = let e = first_up b s j in let d = mul-add s (tri j) j in omega arith
 
+first_down_more : (b s j k : ℕ) → b ≡ j + k + 1 → first_cell Deinterleave b s j + s * tri (b - j) ≡ s * tri b → first_cell Deinterleave b s (suc j) + s * tri (b - suc j) ≡ s * tri b
+first_down_more b s j k e f =
+    let g : b - j ≡ suc k = omega arith in
+    let i : b - suc j ≡ k = omega arith in
+    let m : b - 1 - j ≡ k = omega arith in
+    let d = mul-add s (tri k) k in
+    grind arith
+
 first_down : (b s j : ℕ) → j ≤ b → first_cell Deinterleave b s j + s * tri (b - j) ≡ s * tri b
 first_down b s zero l = rw (sub-zero b, zero-add (s * tri b))
-first_down b s (suc j) l =
-    let e = first_down b s j (omega arith) in
-    let f : b - j ≡ suc (b - 1 - j) = omega arith in
-    let g : b - suc j ≡ b - 1 - j = omega arith in
-    let k : s * tri (b - j) ≡ s * (tri (b - 1 - j) + (b - 1 - j)) = ap (λ (n : ℕ). s * tri n) f in
-    let m : s * tri (b - suc j) ≡ s * tri (b - 1 - j) = ap (λ (n : ℕ). s * tri n) g in
-    let d = mul-add s (tri (b - 1 - j)) (b - 1 - j) in
-    omega arith
+first_down b s (suc j) l = first_down_more b s j (b - 1 - j) (omega arith) (first_down b s j (omega arith))
 
 first_all : (d : Direction) (b s : ℕ) → first_cell d b s b ≡ s * tri b
 first_all Interleave b s = first_up b s b

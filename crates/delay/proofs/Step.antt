@@ -1,8 +1,7 @@
 -- One element through the ring: what leaves, and how the ring stands after it.
-use Rattle.std.proofs.Common.{◌≡◌, ℕ, ◌+◌, ◌*◌, ◌/◌, ◌%◌, ◌<◌, ◌≤◌, ◌≢◌, List, [], ◌∷◌, ◌++◌, length, get_or, set, Some, None, Option, sym, ap, ◌∙◌, subst, ⊎_elim, mod-lt, mul-pos, mul-zero, mul-one, arith}
+use Rattle.std.proofs.Common.{◌≡◌, ℕ, ◌+◌, ◌*◌, ◌/◌, ◌%◌, ◌<◌, ◌≤◌, ◌≢◌, List, [], ◌∷◌, ◌++◌, length, get_or, set, Some, None, Option, sym, ap, ◌∙◌, subst, mod-lt, mul-pos, mul-zero, mul-one, arith}
 use native.Mathlib.Nat.{add-div_right, add-mod_right, mod-add-mod}
 use Rattle.std.proofs.lemmas.List.{length_push, get_or_read, get_or-set_same, get_or-set_other}
-use Rattle.std.proofs.lemmas.Bool.{cases_eq}
 use Rattle.delay.specs.Ring.{delayed, cell, Apart, Ring, Layout, Place, Sound, Stands, Visited, Took}
 use Rattle.delay.proofs.Delayed.{delayed_more, delayed_last}
 use Rattle.delay.proofs.Cells.{same_branch, cells_apart, last_cell}
@@ -15,7 +14,7 @@ module _ {X : Type 0} (z : X) (b : ℕ) (S L : ℕ → ℕ) (p : 0 < b) (apart :
 
   -- The next branch.
   next_branch : (branch + 1) % b ≡ length (h ++ x ∷ []) % b
-  next_branch = ap (λ (k : ℕ). (k + 1) % b) before.branch_is ∙ (mod-add-mod (length h) b 1 ∙ ap (λ (k : ℕ). k % b) (sym (length_push h x)))
+  next_branch = let e = before.branch_is in grind (arith, mod-add-mod (length h) b 1, length_push h x)
 
   -- A branch with no cells.
   pub step_none : L branch ≡ 0 → (x ≡ delayed z b L (h ++ x ∷ []) (length h)) × Ring z (h ++ x ∷ []) b S L ((branch + 1) % b) slots cells
@@ -37,12 +36,12 @@ module _ {X : Type 0} (z : X) (b : ℕ) (S L : ℕ → ℕ) (p : 0 < b) (apart :
 
     -- The slot of the branch whose turn it is.
     slot_now : get_or slots branch 0 ≡ length h / b % L branch
-    slot_now = ap (λ (j : ℕ). get_or slots j 0) before.branch_is ∙ (before.slot_is (length h) (omega arith) (omega arith) here_some ∙ ap (λ (j : ℕ). length h / b % L j) (sym before.branch_is))
+    slot_now = let e = before.branch_is in grind (arith, before.slot_is (length h), here_some)
 
     -- Its cell is the one in which the next output waits.
     here : S branch + get_or slots branch 0 ≡ cell b S L (length h)
     unfolding cell
-    here = ap (λ (k : ℕ). S branch + k) slot_now ∙ ap (λ (j : ℕ). S j + length h / b % L j) before.branch_is
+    here = let e = before.branch_is in let f = slot_now in grind arith
 
     -- That cell is one of the memory's.
     here_within : cell b S L (length h) < length cells
@@ -52,11 +51,12 @@ module _ {X : Type 0} (z : X) (b : ℕ) (S L : ℕ → ℕ) (p : 0 < b) (apart :
     leaves : get_or cells (S branch + get_or slots branch 0) z ≡ delayed z b L (h ++ x ∷ []) (length h)
     leaves =
         let w : 0 < b * L (length h % b) = mul-pos p here_some in
-        ap (λ (k : ℕ). get_or cells k z) here ∙ (before.held (length h) (omega arith) (omega arith) ∙ sym (delayed_more z b L h (x ∷ []) (length h) (omega arith)))
+        let e = here in
+        grind (arith, before.held (length h), delayed_more z b L h (x ∷ []) (length h))
 
     -- The branch's slot after this turn is that of its next turn.
     slot_next : (get_or slots branch 0 + 1) % L branch ≡ (length h / b + 1) % L (length h % b)
-    slot_next = ap (λ (k : ℕ). (k + 1) % L branch) slot_now ∙ (mod-add-mod (length h / b) (L branch) 1 ∙ ap (λ (j : ℕ). (length h / b + 1) % L j) before.branch_is)
+    slot_next = let e = before.branch_is in let f = slot_now in grind (arith, mod-add-mod (length h / b) (L branch) 1)
 
     -- The slots and the cells after it.
     slots_after : (i : ℕ) → length h + 1 ≤ i → i < length h + 1 + b → 0 < L (i % b) → get_or (set slots branch ((get_or slots branch 0 + 1) % L branch)) (i % b) 0 ≡ i / b % L (i % b)
@@ -92,7 +92,7 @@ module _ {X : Type 0} (z : X) (b : ℕ) (S L : ℕ → ℕ) (p : 0 < b) (apart :
 module _ {X : Type 0} (l : Layout) (sound : Sound l) (p : Place) (stands : Stands l p) (cell : Option ℕ) (p' : Place) (visited : Visited l p cell p') (cells : List X) (x : X) where
   pub took_none : cell ≡ None → Took l p cells x x p' cells
   took_none none =
-      let e : l.size p.branch ≡ 0 = ⊎_elim (λ (a : l.size p.branch ≡ 0). a) (λ (a : l.size p.branch ≢ 0). let v = visited.in_slot (omega arith) in cc) (cases_eq (l.size p.branch) 0) in
+      let e : l.size p.branch ≡ 0 = grind (arith, visited.in_slot) in
       record {
         run = λ z h before.
             let s = step_none z l.branches l.first l.size sound.some sound.apart h x p.branch p.slots cells stands.long before e in
@@ -101,7 +101,7 @@ module _ {X : Type 0} (l : Layout) (sound : Sound l) (p : Place) (stands : Stand
 
   pub took_some : (i : ℕ) (r : X) → cell ≡ Some i → r ≡ get_or cells i r → l.cells ≤ length cells → Took l p cells x r p' (set cells i x)
   took_some i r some was whole =
-      let e : 0 < l.size p.branch = ⊎_elim (λ (a : l.size p.branch ≡ 0). let v = visited.at_once a in cc) (λ (a : l.size p.branch ≢ 0). omega arith) (cases_eq (l.size p.branch) 0) in
+      let e : 0 < l.size p.branch = grind (arith, visited.at_once) in
       let v = visited.in_slot e in
       let f : i ≡ l.first p.branch + get_or p.slots p.branch 0 = cc in
       let w = sound.within p.branch stands.inside in
