@@ -9,6 +9,7 @@ use crate::branches::{Direction, Shape, Turn};
 use crate::ring::{Branching, clear, pass, push};
 use refusal::Refusal;
 
+// Each call is the ring's. It stands on both memories, since callers know them by these names and promises.
 impl Delay {
     // The cells that the memory needs.
     pub fn len(&self) -> usize
