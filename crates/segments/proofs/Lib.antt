@@ -4,3 +4,4 @@ pub mod Numbers
 pub mod Levels
 pub mod Back
 pub mod Written
+pub mod Made

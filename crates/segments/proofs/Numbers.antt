@@ -1,6 +1,7 @@
 -- Counts and numbers made of bits.
-use Rattle.std.proofs.Common.{◌≡◌, ℕ, zero, suc, ◌+◌, ◌-◌, ◌*◌, ◌/◌, ◌%◌, ◌^◌, ◌<◌, ◌≤◌, Bool, true, false, cond, ltb, refl, add-one, arith, pow_mono}
+use Rattle.std.proofs.Common.{◌≡◌, ℕ, zero, suc, ◌+◌, ◌-◌, ◌*◌, ◌/◌, ◌%◌, ◌^◌, ◌<◌, ◌≤◌, Bool, true, false, cond, ltb, bit_or, refl, ap, ◌∙◌, add-zero, add-one, arith, pow_mono}
 use mir.Val.{bool_byte}
+use Rattle.std.specs.List.{fold, range_with_len}
 use Rattle.tables.proofs.All.{agree}
 use Rattle.level.specs.Level.{bit}
 use Rattle.segments.specs.Pn.{odd}
@@ -64,6 +65,30 @@ number_fits bits n c b e h =
     let m = pow_mono {i = n} {j = 7} (omega arith) in
     let t = bit_small b in
     rw (bool_bit b) (omega arith)
+
+-- a number with one more bit, as a byte is shifted
+abbrev pub pushed : (ℕ → Bool) → ℕ → ℕ → ℕ
+pushed bits b k = bit_or (b * 2 ^ 1 % 2 ^ 8) (bit (bits k))
+
+-- nothing is shifted out of a number of fewer than eight bits
+pushed_is : (b : ℕ) (x : Bool) → b < 128 → bit_or (b * 2 ^ 1 % 2 ^ 8) (bit x) ≡ 2 * b + bit x
+pushed_is b true h = agree (λ b. bit_or (b * 2 ^ 1 % 2 ^ 8) 1) (λ b. 2 * b + 1) 128 tt b h
+pushed_is b false h = agree (λ b. bit_or (b * 2 ^ 1 % 2 ^ 8) 0) (λ b. 2 * b + 0) 128 tt b h
+
+-- bits that are pushed in turn make their number
+pushed_on : (bits : ℕ → Bool) (n k : ℕ) → k + n ≤ 8 → fold (pushed bits) (number bits k) (range_with_len k n) ≡ number bits (k + n)
+unfolding number
+pushed_on bits zero k h = rw add-zero refl
+pushed_on bits (suc n) k h =
+    let s = number_small bits k in
+    let m = pow_mono {i = k} {j = 7} (omega arith) in
+    let e : pushed bits (number bits k) k ≡ number bits (k + 1) = rw add-one (pushed_is (number bits k) (bits k) (omega arith)) in
+    ap (λ (b : ℕ). fold (pushed bits) b (range_with_len (k + 1) n)) e ∙ (pushed_on bits n (k + 1) (omega arith) ∙ ap (number bits) (omega arith))
+
+-- so do eight bits
+pub number_of_pushed : (bits : ℕ → Bool) → fold (pushed bits) 0 (range_with_len 0 8) ≡ number bits 8
+unfolding number
+number_of_pushed bits = pushed_on bits 8 0 (omega arith)
 
 -- numbers of the same bits
 pub number_same : (f g : ℕ → Bool) (n : ℕ) → ((k : ℕ) → k < n → f k ≡ g k) → number f n ≡ number g n

@@ -1,11 +1,13 @@
 -- The tables of PN511 and PN63 hold the sequences, and the sequences follow their recurrences.
-use Rattle.std.proofs.Common.{◌≡◌, ℕ, zero, suc, ◌+◌, ◌%◌, ◌<◌, Bool, T, eqb, List, get_or, ℤ, refl, ap, ◌∙◌, add-zero, add-suc, zero-add, arith, eqb→eq}
+use Rattle.std.proofs.Common.{◌≡◌, ℕ, zero, suc, ◌+◌, ◌%◌, ◌<◌, Bool, T, eqb, List, length, take, drop, ℤ, pos, refl, ap, ◌∙◌, add-zero, add-suc, zero-add, arith, eqb→eq}
+use lib.Signed.{lt_z}
+use Rattle.std.proofs.lemmas.List.{get_or-take, get_or-drop}
 use Rattle.level.specs.Level.{bit}
 use Rattle.std.proofs.lemmas.Bool.Decides.{nat_tests}
 use Rattle.tables.proofs.All.{below}
 use Rattle.tables.proofs.Entries.{image, images}
 use Rattle.segments.specs.Segment.{differ}
-use Rattle.segments.specs.Report.{sign_at, differing}
+use Rattle.segments.specs.Report.{sign_at, digit_bit, count, differing}
 use Rattle.segments.proofs.Numbers.{count_same}
 use Rattle.segments.specs.Pn.{odd, next511, next63, window511, window63, pn511, pn63, Recurrences}
 
@@ -17,27 +19,33 @@ digit w = 48 + w % 2
 digit_odd : (w : ℕ) → eqb (digit w) 49 ≡ odd w
 digit_odd w = grind (arith, nat_tests)
 
--- an entry of the table of PN511
-pub entry511 : (k : ℕ) → k < 511 → eqb (get_or (images digit next511 128 511) k 0) 49 ≡ pn511 k
+-- an entry of a table of digits whose windows g makes, one from the other
+entry : (f g : ℕ → ℕ) → ((k : ℕ) → f (suc k) ≡ g (f k)) → (n k : ℕ) → k < n → digit_bit (images digit g (f 0) n) k ≡ odd (f k)
+entry f g next n k h = ap (λ (b : ℕ). eqb b 49) (image digit 0 f g next n 0 k h ∙ ap (λ (m : ℕ). digit (f m)) (zero-add k)) ∙ digit_odd (f k)
+
+-- the tables of PN511 and PN63
+abbrev pub digits511 : List ℕ
+digits511 = images digit next511 128 511
+
+abbrev pub digits63 : List ℕ
+digits63 = images digit next63 39 63
+
+pub entry511 : (k : ℕ) → k < 511 → digit_bit digits511 k ≡ pn511 k
 unfolding window511
-entry511 k h = ap (λ (b : ℕ). eqb b 49) (image digit 0 window511 next511 (λ k. refl) 511 0 k h) ∙ (digit_odd (window511 (0 + k)) ∙ ap pn511 (zero-add k))
+entry511 = entry window511 next511 (λ k. refl) 511
 
--- an entry of the table of PN63
-pub entry63 : (k : ℕ) → k < 63 → eqb (get_or (images digit next63 39 63) k 0) 49 ≡ pn63 k
+pub entry63 : (k : ℕ) → k < 63 → digit_bit digits63 k ≡ pn63 k
 unfolding window63
-entry63 k h = ap (λ (b : ℕ). eqb b 49) (image digit 0 window63 next63 (λ k. refl) 63 0 k h) ∙ (digit_odd (window63 (0 + k)) ∙ ap pn63 (zero-add k))
+entry63 = entry window63 next63 (λ k. refl) 63
 
--- counting by the table of PN511
-pub counted511 : (levels : List ℤ) (from : ℕ) → differing (λ k. eqb (get_or (images digit next511 128 511) k 0) 49) levels from 511 ≡ differing pn511 levels from 511
-counted511 levels from =
-    count_same (λ k. differ (sign_at levels (from + k)) (eqb (get_or (images digit next511 128 511) k 0) 49)) (λ k. differ (sign_at levels (from + k)) (pn511 k)) 511
-    (λ k h. ap (differ (sign_at levels (from + k))) (entry511 k h))
-
--- counting by the table of PN63
-pub counted63 : (levels : List ℤ) (from : ℕ) → differing (λ k. eqb (get_or (images digit next63 39 63) k 0) 49) levels from 63 ≡ differing pn63 levels from 63
-counted63 levels from =
-    count_same (λ k. differ (sign_at levels (from + k)) (eqb (get_or (images digit next63 39 63) k 0) 49)) (λ k. differ (sign_at levels (from + k)) (pn63 k)) 63
-    (λ k h. ap (differ (sign_at levels (from + k))) (entry63 k h))
+-- counting by a table in a part of levels
+pub counted : (digits : List ℕ) (bits : ℕ → Bool) (n : ℕ) → ((k : ℕ) → k < n → digit_bit digits k ≡ bits k) → (levels : List ℤ) (from : ℕ) (part : List ℤ) → length part ≡ n → part ≡ take n (drop from levels)
+    → count (λ k. differ (sign_at part k) (digit_bit digits k)) (length part) ≡ differing bits levels from n
+counted digits bits n same levels from part l e =
+    let f : (k : ℕ) → k < n → sign_at part k ≡ sign_at levels (from + k) = λ k h. rw e (ap (lt_z (pos 0)) (get_or-take n (drop from levels) k (pos 0) h ∙ get_or-drop from levels k (pos 0))) in
+    rw l
+    (count_same (λ k. differ (sign_at part k) (digit_bit digits k)) (λ k. differ (sign_at levels (from + k)) (bits k)) n
+    (λ k h. rw (f k h, same k h) refl))
 
 -- k steps of g from w
 unfoldable steps : (ℕ → ℕ) → ℕ → ℕ → ℕ

@@ -1,5 +1,5 @@
 -- What the receiver tells from the 832 levels of a field sync.
-use Rattle.std.specs.Prelude.{ℕ, zero, suc, ◌+◌, ◌*◌, Bool, false, cond, List, map, length, ℤ, pos, Ok, Err, Result, ◌==◌, int_lt, nat_lt, slice_index_or}
+use Rattle.std.specs.Prelude.{ℕ, zero, suc, ◌+◌, ◌*◌, Bool, false, cond, List, map, length, ℤ, pos, Ok, Err, Result, ◌==◌, int_lt, nat_lt, slice_index, slice_index_or}
 use Rattle.std.specs.List.{range_with_len}
 use Rattle.refusal.specs.declared.Refusal.{Refusal}
 use Rattle.refusal.specs.declared.Refusal.TheVariants.{WrongLength}
@@ -11,6 +11,10 @@ use Rattle.segments.specs.Segment.{differ}
 -- the bit that stands at a position: one where the level is above zero
 abbrev pub sign_at : List ℤ → ℕ → Bool
 sign_at levels p = int_lt (pos 0) (slice_index_or levels p (pos 0))
+
+-- bit k of a sequence given as digits: one where the digit is 1
+abbrev pub digit_bit : List ℕ → ℕ → Bool
+digit_bit digits k = slice_index digits k == 49
 
 -- how many numbers below n pass a test
 unfoldable pub count : (ℕ → Bool) → ℕ → ℕ

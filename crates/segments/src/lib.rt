@@ -10,13 +10,17 @@ ghost use Rattle.segments.specs.Laws.{ReadBack};
 
 use level::is_level;
 use refusal::Refusal;
+use std::array;
 
 mod pn;
 
-use pn::{PN63, PN511};
+use pn::{PN63, PN511, is_one};
 
-// The four sync symbols of a segment as bits.
-const SEGMENT_SYNC: [bool; 4] = [true, false, false, true];
+// The four sync symbols of a segment.
+const SYNC_SYMBOLS: [i8; 4] = [5, -5, -5, 5];
+
+// The bits that they stand for.
+const SYNC_BITS: [bool; 4] = [true, false, false, true];
 
 // Writes the four sync symbols of a data segment in a memory of 832; the other symbols stay.
 pub fn write_data_sync(segment: &mut [i8]) -> Result<(), Refusal>
@@ -26,47 +30,50 @@ pub fn write_data_sync(segment: &mut [i8]) -> Result<(), Refusal>
     if segment.len() != 832 {
         return Err(Refusal::WrongLength);
     }
-    segment[0] = 5;
-    segment[1] = -5;
-    segment[2] = -5;
-    segment[3] = 5;
+    segment[..4].copy_from_slice(&SYNC_SYMBOLS);
     Ok(())
+}
+
+// Accepts sync data as an array: 15 bytes of which the last four bits are zero.
+fn accepted(sync: &[u8]) -> Result<&[u8; 15], Refusal>
+    ensures { MatchResult result (λ bytes. (bytes.now ≡ sync.now) × (sync_answer sync.now ≡ Ok tt)) (λ refusal. sync_answer sync.now ≡ Err refusal) }
+{
+    let Some(bytes) = sync.as_array() else {
+        return Err(Refusal::WrongLength);
+    };
+    if bytes[14] % 16 != 0 {
+        return Err(Refusal::SyncTailNotZero);
+    }
+    Ok(bytes)
 }
 
 // Checks sync data: 15 bytes of which the last four bits are zero.
 pub fn check_sync(sync: &[u8]) -> Result<(), Refusal>
     ensures { result ≡ sync_answer sync.now }
 {
-    if sync.len() != 15 {
-        return Err(Refusal::WrongLength);
-    }
-    if sync[14] % 16 != 0 {
-        return Err(Refusal::SyncTailNotZero);
-    }
+    accepted(sync)?;
     Ok(())
 }
 
 // Bit k of the sync data.
-fn sync_bit(sync: &[u8], k: usize) -> bool
-    requires fifteen { length sync.now ≡ 15 }
-    requires inside { k < 116 }
+fn sync_bit(sync: &[u8; 15], k: usize) -> bool
+    requires { k < 116 }
     ensures { result ≡ sync_bit sync.now k }
 {
     (sync[k / 8] >> (7 - k % 8)) % 2 == 1
 }
 
 // The bit at a position of a field sync.
-fn field_bit(sync: &[u8], second: bool, position: usize) -> bool
-    requires fifteen { length sync.now ≡ 15 }
-    requires inside { position < 820 }
+fn field_bit(sync: &[u8; 15], second: bool, position: usize) -> bool
+    requires { position < 820 }
     ensures { result ≡ field_bit sync.now second position }
 {
     match position {
-        0..=3 => SEGMENT_SYNC[position],
-        4..=514 => PN511[position - 4] == b'1',
-        515..=577 => PN63[position - 515] == b'1',
-        578..=640 => second != (PN63[position - 578] == b'1'),
-        641..=703 => PN63[position - 641] == b'1',
+        0..=3 => SYNC_BITS[position],
+        4..=514 => PN511.bit(position - 4),
+        515..=577 => PN63.bit(position - 515),
+        578..=640 => second != PN63.bit(position - 578),
+        641..=703 => PN63.bit(position - 641),
         _ => sync_bit(sync, position - 704),
     }
 }
@@ -78,15 +85,11 @@ fn bit_level(bit: bool) -> i8
     if bit { 5 } else { -5 }
 }
 
-// Writes the 820 bits of a field sync by their levels.
-fn write_bits(sync: &[u8], second: bool, levels: &mut [i8])
-    requires fifteen { length sync.now ≡ 15 }
-    requires whole { length levels.old ≡ 820 }
-    ensures { levels.new ≡ field_head sync.now second }
+// The levels of the 820 bits of a field sync.
+fn bit_levels(sync: &[u8; 15], second: bool) -> [i8; 820]
+    ensures { result ≡ field_head sync.now second }
 {
-    for position in 0..820 {
-        levels[position] = bit_level(field_bit(sync, second, position));
-    }
+    array::from_fn(|position| bit_level(field_bit(sync, second, position)))
 }
 
 // A symbol where it is a level, and −5 where not.
@@ -114,9 +117,10 @@ pub fn write_field_sync(sync: &[u8], second: bool, last: &mut [i8]) -> Result<()
     if last.len() != 832 {
         return Err(Refusal::WrongLength);
     }
-    check_sync(sync)?;
-    write_bits(sync, second, &mut last[0..820]);
-    keep_levels(&mut last[820..832]);
+    let sync = accepted(sync)?;
+    let (bits, copied) = last.split_at_mut(820);
+    bits.copy_from_slice(&bit_levels(sync, second));
+    keep_levels(copied);
     Ok(())
 }
 
@@ -127,57 +131,29 @@ pub struct FieldReport {
     pub wrong: u16,
 }
 
-// The bit that stands at a position, by the sign of its level.
-fn sign(segment: &[i8], position: usize) -> bool
-    requires { position < length segment.now }
-    ensures { result ≡ sign_at segment.now position }
-{
-    segment[position] > 0
-}
-
-// How many signs from a position on differ from bits given as digits.
-fn count_differing(segment: &[i8], from: usize, bits: &[u8]) -> u16
-    requires few { length bits.now ≤ 511 }
-    requires inside { from + length bits.now ≤ length segment.now }
-    ensures { result ≡ differing (λ k. nat_eq (slice_index bits.now k) 49) segment.now from (length bits.now) }
-{
-    let mut count = 0;
-    for k in 0..bits.len() {
-        count += (sign(segment, from + k) != (bits[k] == b'1')) as u16;
-    }
-    count
-}
-
-// Bit k of the sync data received.
-fn received_bit(segment: &[i8], k: usize) -> bool
-    requires { length segment.now ≡ 832 }
+// Bit k of the sync data received: 704 bits stand before the first, and the last four are zero.
+fn received_bit(segment: &[i8; 832], k: usize) -> bool
     ensures { result ≡ received_bit segment.now k }
 {
-    k < 116 && sign(segment, 704 + k)
+    k < 116 && is_one(segment[704 + k])
 }
 
 // Byte n of the sync data received.
-fn received_byte(segment: &[i8], n: usize) -> u8
-    requires whole { length segment.now ≡ 832 }
-    requires inside { n < 15 }
+fn received_byte(segment: &[i8; 832], n: usize) -> u8
+    requires { n < 15 }
     ensures { result ≡ received_byte segment.now n }
 {
-    let mut byte = 0;
-    for k in 0..8 {
-        byte = 2 * byte + received_bit(segment, 8 * n + k) as u8;
-    }
-    byte
+    (0..8).fold(
+        0,
+        |byte, k| byte << 1 | u8::from(received_bit(segment, 8 * n + k)),
+    )
 }
 
-// Reads the sync data received.
-fn read_sync(segment: &[i8], sync: &mut [u8])
-    requires whole { length segment.now ≡ 832 }
-    requires fifteen { length sync.old ≡ 15 }
-    ensures { sync.new ≡ received_sync segment.now }
+// The sync data received.
+fn received_sync(segment: &[i8; 832]) -> [u8; 15]
+    ensures { result ≡ received_sync segment.now }
 {
-    for n in 0..15 {
-        sync[n] = received_byte(segment, n);
-    }
+    array::from_fn(|n| received_byte(segment, n))
 }
 
 // Reads a received field sync by the signs of its levels, and its sync data into a memory of 15 bytes.
@@ -185,13 +161,17 @@ pub fn read_field_sync(segment: &[i8], sync: &mut [u8]) -> Result<FieldReport, R
     ensures answer { result ≡ report_answer segment.now (length sync.old) }
     ensures after { MatchResult result (λ _. sync.new ≡ received_sync segment.now) (λ _. sync.new ≡ sync.old) }
 {
-    if segment.len() != 832 || sync.len() != 15 {
+    let Some(segment) = segment.as_array() else {
         return Err(Refusal::WrongLength);
-    }
-    read_sync(segment, sync);
-    let inverted = count_differing(segment, 578, PN63) > 31;
-    let wrong = count_differing(segment, 4, PN511);
-    Ok(FieldReport { inverted, wrong })
+    };
+    let Some(sync) = sync.as_mut_array() else {
+        return Err(Refusal::WrongLength);
+    };
+    *sync = received_sync(segment);
+    Ok(FieldReport {
+        inverted: PN63.differing(&segment[578..641]) > 31,
+        wrong: PN511.differing(&segment[4..515]) as u16,
+    })
 }
 
 // PN511 and PN63 follow their recurrences, and a field sync tells what it was made of.
