@@ -1,11 +1,10 @@
 -- One symbol more of a lane that is read.
-use Rattle.std.proofs.Common.{◌≡◌, ℕ, zero, suc, ◌+◌, ◌-◌, ◌*◌, ◌/◌, ◌%◌, ◌<◌, ◌≤◌, min, Bool, true, false, ◌||◌, eqb, leb, ◌≢◌, List, length, get_or, set, ℤ, pos, sym, refl, ap, ◌∙◌, subst, ⊎_elim, add-zero, zero-add, add-one, arith, w8, SFits, to_z, of_z, rules}
+use Rattle.std.proofs.Common.{◌≡◌, ℕ, zero, suc, ◌+◌, ◌-◌, ◌*◌, ◌/◌, ◌%◌, ◌<◌, ◌≤◌, min, Bool, true, false, ◌||◌, eqb, leb, ◌≢◌, List, length, get_or, set, ℤ, pos, sym, refl, ap, ◌∙◌, subst, ⊎_elim, add-zero, zero-add, add-one, arith, rules}
 use native.Mathlib.Nat.{min-eq_left, min-eq_right}
-use Rattle.std.proofs.lemmas.List.{get_or-set_same, get_or-set_other, length-set, set-set}
-use Rattle.std.proofs.lemmas.Int.{to_z-of_z}
+use Rattle.std.proofs.lemmas.List.{get_or-set_same, get_or-set_other}
 use Rattle.std.proofs.lemmas.Bool.{cases_eq, ne_eqb}
 use Rattle.level.specs.declared.Bits.{Bits}
-use Rattle.level.specs.Level.{bit, bits_of, is_level, all_levels}
+use Rattle.level.specs.Level.{bit, bits_of}
 use Rattle.trellis.specs.declared.reading.Marked.{Marked}
 use Rattle.trellis.specs.declared.reading.Memory.{Memory}
 use Rattle.trellis.specs.declared.reading.Pair.{Pair}
@@ -14,8 +13,7 @@ use Rattle.trellis.specs.Sent.{xor}
 use Rattle.trellis.specs.Received.{bits_at, last_z2, pair_at, doubted, pairs_of, doubts_of}
 use Rattle.trellis.specs.Writer.{lane_encoder, lane_byte}
 use Rattle.trellis.specs.Reader.{noted, pair_of, memory_before, blank, joined, part_of, SegmentOf, LaneHeld, undoubted_in, LaneRead, ReadsLane, PairRead}
-use Rattle.trellis.proofs.Write.{each_level}
-use Rattle.trellis.proofs.Numbers.{place_law, lane_byte_is, lane_byte_encoder, lane_byte_below, lane_byte_row, byte_kept, lane_group_is, lane_symbol, row_byte}
+use Rattle.trellis.proofs.Numbers.{place_law, lane_byte_is, lane_byte_encoder, lane_byte_below, lane_byte_row, lane_group_is, lane_symbol, row_byte}
 
 -- the memory a group on
 memory_on : (levels : ℕ → ℤ) (e q : ℕ) → memory_before levels e (q + 1) ≡ noted (memory_before levels e q) (bits_at levels e q)
@@ -99,8 +97,8 @@ module _ (symbols : List ℤ) (first place undoubted : ℕ) (before : Memory) (o
       }
 
   module _ (g : ℕ) (quad : List Marked) (memory : Memory) (part : Marked) (pl : place < 12) (fl : first ≤ 207) (gl : g < 69) (len : length quad ≡ 828)
-      (u : ℕ) (u_is : u ≡ lane_byte first place (first + g)) (pair : ℕ) (pair_is : pair ≡ (first + g) % 4) (symbol : ℤ) (symbol_is : symbol ≡ get_or symbols (12 * g + place) (pos 0)) (asked : Bool) (Asked_is : asked ≡ leb undoubted g)
-      (new : Marked) (after : Memory) (w : PairRead symbol asked pair part new memory after) (kept : (first + g) % 4 ≢ 0 → part ≡ get_or quad u blank)
+      (u : ℕ) (u_is : u ≡ lane_byte first place (first + g)) (pair : ℕ) (pair_is : pair ≡ (first + g) % 4) (bits : Bits) (bits_is : bits ≡ bits_of (get_or symbols (12 * g + place) (pos 0))) (asked : Bool) (Asked_is : asked ≡ leb undoubted g)
+      (new : Marked) (after : Memory) (w : PairRead bits asked pair part new memory after) (kept : (first + g) % 4 ≢ 0 → part ≡ get_or quad u blank)
       (h : ReadsLane symbols first place undoubted g before old quad memory) where
     row : u / 12 ≡ (first + g) / 4
     row = rw u_is (lane_byte_row first place (first + g) pl)
@@ -116,12 +114,12 @@ module _ (symbols : List ℤ) (first place undoubted : ℕ) (before : Memory) (o
       sofar : LaneRead levels n first place g quad memory
       sofar = h.by_history levels n f d s b held
 
-      bits_right : bits_of symbol ≡ bits_at levels (lane_encoder n place) (69 * n + g)
-      bits_right = ap bits_of (symbol_is ∙ (s (12 * g + place) (omega arith) ∙ ap levels (lane_symbol n place g pl gl)))
+      bits_right : bits ≡ bits_at levels (lane_encoder n place) (69 * n + g)
+      bits_right = bits_is ∙ ap bits_of (s (12 * g + place) (omega arith) ∙ ap levels (lane_symbol n place g pl gl))
 
-      pair_is_there : pair_of memory (bits_of symbol) asked ≡ pair_there levels (lane_encoder n place) (69 * n + g)
+      pair_is_there : pair_of memory (bits) asked ≡ pair_there levels (lane_encoder n place) (69 * n + g)
       pair_is_there =
-          ap (λ (m : Memory). pair_of m (bits_of symbol) asked) sofar.memory_after
+          ap (λ (m : Memory). pair_of m (bits) asked) sofar.memory_after
           ∙ (ap (λ (x : Bits). pair_of (memory_before levels (lane_encoder n place) (69 * n + g)) x asked) bits_right
           ∙ (ap (λ (x : Bool). pair_of (memory_before levels (lane_encoder n place) (69 * n + g)) (bits_at levels (lane_encoder n place) (69 * n + g)) x) (Asked_is ∙ asked_right n undoubted g d)
           ∙ pair_right levels (lane_encoder n place) (69 * n + g)))
@@ -179,7 +177,7 @@ module _ (symbols : List ℤ) (first place undoubted : ℕ) (before : Memory) (o
           let o = memory_on levels (lane_encoder n place) (69 * n + g) in
           let z : 69 * n + (g + 1) ≡ 69 * n + g + 1 = omega arith in
           record {
-            memory_after = rw (z, o) (w.memory_after ∙ (ap (λ (m : Memory). noted m (bits_of symbol)) sofar.memory_after ∙ ap (noted (memory_before levels (lane_encoder n place) (69 * n + g))) bits_right));
+            memory_after = rw (z, o) (w.memory_after ∙ (ap (λ (m : Memory). noted m (bits)) sofar.memory_after ∙ ap (noted (memory_before levels (lane_encoder n place) (69 * n + g))) bits_right));
             bytes_held = held_more;
           }
 
@@ -189,47 +187,3 @@ module _ (symbols : List ℤ) (first place undoubted : ℕ) (before : Memory) (o
           others_stay = λ v ne. get_or-set_other quad u v new blank (λ z. ne g (omega arith) (z ∙ u_is)) ∙ h.others_stay v (λ j l. ne j (omega arith));
           by_history = history_more;
         }
-
--- the same of a symbol as the code holds it
-pub plain : (v : ℤ) (asked : Bool) (pair : ℕ) (part new : Marked) (before after : Memory) → SFits w8 v → PairRead (to_z w8 (of_z w8 v)) asked pair part new before after → PairRead v asked pair part new before after
-plain v asked pair part new before after f w = subst (λ (x : ℤ). PairRead x asked pair part new before after) (to_z-of_z w8 v f) w
-
--- each symbol of levels is a level
-pub symbol_is_level : (xs : List ℤ) (p : ℕ) → all_levels xs ≡ true → p < length xs → SFits w8 (get_or xs p (pos 0)) → is_level (to_z w8 (of_z w8 (get_or xs p (pos 0)))) ≡ true
-symbol_is_level xs p a l f = rw (to_z-of_z w8 (get_or xs p (pos 0)) f) (each_level xs a p l)
-
--- four symbols more, which carry a whole byte
-module _ (symbols : List ℤ) (first place undoubted : ℕ) (before : Memory) (old quad : List Marked) (g : ℕ) (pl : place < 12) (fl : first ≤ 207) (gl : g ≤ 65) (len : length quad ≡ 828) (whole : (first + g) % 4 ≡ 0)
-    (u : ℕ) (u_is : u ≡ lane_byte first place (first + g)) (p : ℕ) (p_is : p ≡ 12 * g + place) where
-  -- one of the four: the byte begins with the first
-  one : (i : ℕ) → i < 4 → (cells : List Marked) → length cells ≡ 828 → (part new : Marked) (memory after : Memory) → PairRead (get_or symbols (p + 12 * i) (pos 0)) (leb undoubted (g + i)) i part new memory after
-      → (i ≢ 0 → part ≡ get_or cells u blank) → ReadsLane symbols first place undoubted (g + i) before old cells memory → ReadsLane symbols first place undoubted (g + i + 1) before old (set cells u new) after
-  one i l cells n part new memory after w kept h =
-      read_more symbols first place undoubted before old (g + i) cells memory part pl fl (omega arith) n u (u_is ∙ byte_kept first place (first + g) (first + (g + i)) (omega arith)) i (omega arith)
-      (get_or symbols (p + 12 * i) (pos 0)) (ap (λ (k : ℕ). get_or symbols k (pos 0)) (omega arith)) (leb undoubted (g + i)) refl new after w (λ ne. kept (λ z. ne (omega arith))) h
-
-  same : (cells : List Marked) (x : Marked) → length cells ≡ 828 → x ≡ get_or (set cells u x) u blank
-  same cells x n = let b : u < 828 = rw u_is (lane_byte_below first place (first + g) pl (omega arith)) in let l : u < length cells = omega arith in sym (get_or-set_same cells u x blank l)
-
-  pub read_four : (x1 x2 x3 x4 x : Marked) (m0 m1 m2 m3 m4 : Memory)
-      → PairRead (get_or symbols p (pos 0)) (leb undoubted g) 0 x x1 m0 m1 → PairRead (get_or symbols (p + 12) (pos 0)) (leb undoubted (g + 1)) 1 x1 x2 m1 m2
-      → PairRead (get_or symbols (p + 24) (pos 0)) (leb undoubted (g + 2)) 2 x2 x3 m2 m3 → PairRead (get_or symbols (p + 36) (pos 0)) (leb undoubted (g + 3)) 3 x3 x4 m3 m4
-      → ReadsLane symbols first place undoubted g before old quad m0 → ReadsLane symbols first place undoubted (g + 4) before old (set quad u x4) m4
-  read_four x1 x2 x3 x4 x m0 m1 m2 m3 m4 w0 w1 w2 w3 h =
-      let q1 : List Marked = set quad u x1 in
-      let q2 : List Marked = set (set quad u x1) u x2 in
-      let q3 : List Marked = set (set (set quad u x1) u x2) u x3 in
-      let l1 : length (set quad u x1) ≡ 828 = simp length-set len in
-      let l2 : length (set (set quad u x1) u x2) ≡ 828 = simp length-set len in
-      let l3 : length (set (set (set quad u x1) u x2) u x3) ≡ 828 = simp length-set len in
-      let z0 : g + 0 ≡ g = omega arith in
-      let p0 : p + 0 ≡ p = omega arith in
-      let z1 : g + 0 + 1 ≡ g + 1 = omega arith in
-      let z2 : g + 1 + 1 ≡ g + 2 = omega arith in
-      let z3 : g + 2 + 1 ≡ g + 3 = omega arith in
-      let z4 : g + 3 + 1 ≡ g + 4 = omega arith in
-      let h1 = rw z1 at (one 0 (omega arith) quad len x x1 m0 m1 (rw (z0, p0) w0) (λ ne. absurd (ne refl)) (rw z0 h)) in
-      let h2 = rw z2 at (one 1 (omega arith) q1 l1 x1 x2 m1 m2 w1 (λ ne. same quad x1 len) h1) in
-      let h3 = rw z3 at (one 2 (omega arith) q2 l2 x2 x3 m2 m3 w2 (λ ne. same q1 x2 l1) h2) in
-      let h4 = rw z4 at (one 3 (omega arith) q3 l3 x3 x4 m3 m4 w3 (λ ne. same q2 x3 l2) h3) in
-      simp set-set at h4

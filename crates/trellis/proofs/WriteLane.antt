@@ -7,7 +7,7 @@ use Rattle.trellis.specs.declared.encoding.Encoder.{Encoder}
 use Rattle.trellis.specs.Places.{byte_of}
 use Rattle.trellis.specs.Sent.{bit_of, sent_bits, stepped, x2_of, x1_of, encoder_before, group_level}
 use Rattle.trellis.specs.Writer.{QuadOf, lane_encoder, lane_byte, LaneWritten, WritesLane, PairWritten}
-use Rattle.trellis.proofs.Numbers.{lane_byte_is, lane_byte_below, byte_kept, lane_group_is}
+use Rattle.trellis.proofs.Numbers.{lane_byte_is, lane_byte_below, lane_group_is}
 
 -- the encoder a group on
 encoder_on : (bytes : ℕ → ℕ) (e q : ℕ) → encoder_before bytes e (q + 1) ≡ stepped (encoder_before bytes e q) (x2_of bytes e q) (x1_of bytes e q)
@@ -79,22 +79,3 @@ module _ (quad : List ℕ) (first place : ℕ) (before : Encoder) (old : List �
       subst (λ (o : List ℤ). WritesLane quad first place (g + 1) before old o encoder') (sym (w.symbol ∙ ap (λ (k : ℕ). set out k new) p_is))
       (lane_step g out encoder pl fl gl len u u_is (bit_of (get_or quad u 0) (7 - 2 * pair)) (bit_of (get_or quad u 0) (6 - 2 * pair))
       (ap (λ (k : ℕ). bit_of (get_or quad u 0) (7 - 2 * k)) pair_is) (ap (λ (k : ℕ). bit_of (get_or quad u 0) (6 - 2 * k)) pair_is) new refl encoder' w.encoder_after h)
-
--- four symbols more, which carry a whole byte
-module _ (quad : List ℕ) (first place : ℕ) (before : Encoder) (old : List ℤ) (g : ℕ) (pl : place < 12) (fl : first ≤ 207) (gl : g ≤ 65) (whole : (first + g) % 4 ≡ 0)
-    (u : ℕ) (u_is : u ≡ lane_byte first place (first + g)) (p : ℕ) (p_is : p ≡ 12 * g + place) where
-  -- one of the four
-  one : (i : ℕ) → i < 4 → (out out' : List ℤ) (encoder encoder' : Encoder) → length out ≡ 828 → PairWritten (get_or quad u 0) i (p + 12 * i) out out' encoder encoder'
-      → WritesLane quad first place (g + i) before old out encoder → WritesLane quad first place (g + i + 1) before old out' encoder'
-  one i l out out' encoder encoder' len w h =
-      lane_more quad first place before old (g + i) out out' encoder encoder' pl fl (omega arith) len u (u_is ∙ byte_kept first place (first + g) (first + (g + i)) (omega arith)) i (omega arith) (p + 12 * i) (omega arith) w h
-
-  pub lane_four : (o0 o1 o2 o3 o4 : List ℤ) (e0 e1 e2 e3 e4 : Encoder) → length o0 ≡ 828 → length o1 ≡ 828 → length o2 ≡ 828 → length o3 ≡ 828
-      → PairWritten (get_or quad u 0) 0 p o0 o1 e0 e1 → PairWritten (get_or quad u 0) 1 (p + 12) o1 o2 e1 e2 → PairWritten (get_or quad u 0) 2 (p + 24) o2 o3 e2 e3 → PairWritten (get_or quad u 0) 3 (p + 36) o3 o4 e3 e4
-      → WritesLane quad first place g before old o0 e0 → WritesLane quad first place (g + 4) before old o4 e4
-  lane_four o0 o1 o2 o3 o4 e0 e1 e2 e3 e4 l0 l1 l2 l3 w0 w1 w2 w3 h =
-      let h0 = subst (λ (k : ℕ). WritesLane quad first place k before old o0 e0) (let z : g ≡ g + 0 = omega arith in z) h in
-      let h1 = subst (λ (k : ℕ). WritesLane quad first place k before old o1 e1) (let z : g + 0 + 1 ≡ g + 1 = omega arith in z) (one 0 (omega arith) o0 o1 e0 e1 l0 (subst (λ (k : ℕ). PairWritten (get_or quad u 0) 0 k o0 o1 e0 e1) (let z : p ≡ p + 0 = omega arith in z) w0) h0) in
-      let h2 = subst (λ (k : ℕ). WritesLane quad first place k before old o2 e2) (let z : g + 1 + 1 ≡ g + 2 = omega arith in z) (one 1 (omega arith) o1 o2 e1 e2 l1 w1 h1) in
-      let h3 = subst (λ (k : ℕ). WritesLane quad first place k before old o3 e3) (let z : g + 2 + 1 ≡ g + 3 = omega arith in z) (one 2 (omega arith) o2 o3 e2 e3 l2 w2 h2) in
-      subst (λ (k : ℕ). WritesLane quad first place k before old o4 e4) (let z : g + 3 + 1 ≡ g + 4 = omega arith in z) (one 3 (omega arith) o3 o4 e3 e4 l3 w3 h3)

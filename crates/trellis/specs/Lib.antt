@@ -1,5 +1,6 @@
 pub mod Places
 pub mod Sent
+pub mod Steps
 pub mod Writer
 pub mod Received
 pub mod Reader

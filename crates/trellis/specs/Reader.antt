@@ -1,7 +1,7 @@
 -- What the reader of data symbols answers, and what it leaves.
 use Rattle.std.specs.Prelude.{◌≡◌, ℕ, zero, suc, ◌+◌, ◌-◌, ◌*◌, ◌/◌, ◌%◌, ◌<◌, ◌≤◌, min, Bool, false, cond, ◌||◌, ◌≢◌, List, length, ℤ, pos, Ok, Err, Result, ◌==◌, slice_index_or}
 use Rattle.level.specs.declared.Bits.{Bits}
-use Rattle.level.specs.Level.{bit, bits_of, all_levels}
+use Rattle.level.specs.Level.{bit, all_levels}
 use Rattle.refusal.specs.declared.Refusal.{Refusal}
 use Rattle.refusal.specs.declared.Refusal.TheVariants.{WrongLength, NotALevel}
 use Rattle.trellis.specs.declared.reading.Marked.{Marked}
@@ -84,16 +84,14 @@ pub record ReadsLane (symbols : List ℤ) (first place undoubted count : ℕ) (b
   pub by_history : (levels : ℕ → ℤ) (n : ℕ) → first ≡ 69 * (n % 4) → undoubted ≡ undoubted_in n → SegmentOf levels n symbols → before ≡ memory_before levels (lane_encoder n place) (69 * n)
       → LaneHeld levels (n / 4) (lane_encoder n place) first old → LaneRead levels n first place count quad after
 
--- a symbol is read, as pair 0, 1, 2 or 3 of a byte, into the part of the byte so far
-pub record PairRead (symbol : ℤ) (asked : Bool) (pair : ℕ) (part new : Marked) (before after : Memory) : Type 0 where
-  pub byte_after : new ≡ joined part pair (pair_of before (bits_of symbol) asked)
-  pub memory_after : after ≡ noted before (bits_of symbol)
+-- the bits of a symbol are read, as pair 0, 1, 2 or 3 of a byte, into the part of the byte so far
+pub record PairRead (bits : Bits) (asked : Bool) (pair : ℕ) (part new : Marked) (before after : Memory) : Type 0 where
+  pub byte_after : new ≡ joined part pair (pair_of before bits asked)
+  pub memory_after : after ≡ noted before bits
 
--- a lane goes on from symbol g to symbol r
-pub record ReadsOn (symbols : List ℤ) (first place undoubted g r : ℕ) (old quad : List Marked) (before after : Memory) : Type 0 where
-  pub later : g < r
-  pub inside : r ≤ 69
-  pub goes_on : (start : Memory) (given : List Marked) → ReadsLane symbols first place undoubted g start given old before → ReadsLane symbols first place undoubted r start given quad after
+-- a memory goes on from symbol g of a lane to symbol r, whatever it read before
+abbrev pub ReadsOn : List ℤ → ℕ → ℕ → ℕ → ℕ → ℕ → Memory → List Marked → Memory → List Marked → Type 0
+ReadsOn symbols first place undoubted g r before old after quad = (start : Memory) (given : List Marked) → ReadsLane symbols first place undoubted g start given old before → ReadsLane symbols first place undoubted r start given quad after
 
 -- one of the twelve lanes is read, and the other memories stay
 pub record ReadsOne (symbols : List ℤ) (first place undoubted : ℕ) (e : ℕ) (before : List Memory) (old quad : List Marked) (after : List Memory) : Type 0 where

@@ -1,5 +1,5 @@
 -- What the writer of data symbols answers, and what it leaves.
-use Rattle.std.specs.Prelude.{◌≡◌, ℕ, ◌+◌, ◌-◌, ◌*◌, ◌/◌, ◌%◌, ◌<◌, ◌≤◌, true, cond, ◌≢◌, List, ℤ, pos, Ok, Err, Result, ◌==◌, nat_lt, slice_index, slice_index_or, slice_set}
+use Rattle.std.specs.Prelude.{◌≡◌, ℕ, ◌+◌, ◌-◌, ◌*◌, ◌/◌, ◌%◌, ◌<◌, true, cond, ◌≢◌, List, ℤ, pos, Ok, Err, Result, ◌==◌, nat_lt, slice_index, slice_index_or, slice_set}
 use Rattle.level.specs.Level.{level_of, is_level, all_levels}
 use Rattle.refusal.specs.declared.Refusal.{Refusal}
 use Rattle.refusal.specs.declared.Refusal.TheVariants.{WrongLength}
@@ -52,11 +52,9 @@ pub record PairWritten (byte pair place : ℕ) (old out : List ℤ) (before afte
   pub symbol : out ≡ slice_set old place (level_of (sent_bits before (bit_of byte (7 - 2 * pair)) (bit_of byte (6 - 2 * pair))))
   pub encoder_after : after ≡ stepped before (bit_of byte (7 - 2 * pair)) (bit_of byte (6 - 2 * pair))
 
--- a lane goes on from symbol g to symbol r
-pub record WritesOn (quad : List ℕ) (first place g r : ℕ) (old out : List ℤ) (before after : Encoder) : Type 0 where
-  pub later : g < r
-  pub inside : r ≤ 69
-  pub goes_on : (start : Encoder) (given : List ℤ) → WritesLane quad first place g start given old before → WritesLane quad first place r start given out after
+-- an encoder goes on from symbol g of a lane to symbol r, whatever it wrote before
+abbrev pub WritesOn : List ℕ → ℕ → ℕ → ℕ → ℕ → Encoder → List ℤ → Encoder → List ℤ → Type 0
+WritesOn quad first place g r before old after out = (start : Encoder) (given : List ℤ) → WritesLane quad first place g start given old before → WritesLane quad first place r start given out after
 
 -- one of the twelve encoders writes its lane, and the others stay
 pub record WritesOne (quad : List ℕ) (first place : ℕ) (e : ℕ) (before : List Encoder) (old out : List ℤ) (after : List Encoder) : Type 0 where

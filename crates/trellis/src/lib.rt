@@ -41,12 +41,12 @@ mod tests {
         quad[37] = 0xE4;
         Trellis::new().write(&quad, 0, &mut out)?;
         let first = [5, 3, 1, 3, 1, 3, 1, 3];
-        for g in 0..8 {
-            assert_eq!(rt; out[12 * g], first[g]);
+        for (group, symbol) in out.chunks_exact(12).zip(&first) {
+            assert_eq!(rt; group[0], *symbol);
         }
         let second = [-3, -1, -1, -3, 1, -7, 1, -7, -7, -3, 3, -3, 5, -5, -3, -7];
-        for g in 0..16 {
-            assert_eq!(rt; out[12 * g + 1], second[g]);
+        for (group, symbol) in out.chunks_exact(12).zip(&second) {
+            assert_eq!(rt; group[1], *symbol);
         }
         Ok(())
     }

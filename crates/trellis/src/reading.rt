@@ -1,9 +1,9 @@
 // The reader of data symbols, which marks the bytes that it doubts.
-ghost use Rattle.std.specs.Prelude.{◌≡◌, ℕ, ◌<◌, ◌≤◌, true, length, replicate, ℤ, MatchResult};
-ghost use Rattle.level.specs.Level.{bits_of, is_level, all_levels};
-ghost use Rattle.trellis.specs.Reader.{read_answer, new_memory, noted, pair_of, joined, ReaderAfter, PairRead, Reads, ReadsLane, ReadsOn, ReadsOne};
+ghost use Rattle.std.specs.Prelude.{◌≡◌, ℕ, ◌<◌, true, length, replicate, ℤ, pos, slice_index_or, MatchResult};
+ghost use Rattle.level.specs.Level.{bits_of, is_level};
+ghost use Rattle.trellis.specs.Reader.{read_answer, new_memory, noted, pair_of, joined, ReaderAfter, PairRead, Reads, ReadsOn, ReadsOne};
 
-use crate::lanes::Lane;
+use crate::lanes::{Coder, Lane, walk};
 use level::{Bits, are_levels};
 use refusal::Refusal;
 
@@ -49,14 +49,22 @@ impl Marked {
     }
 }
 
-// The bits of a symbol that is a level.
-fn level_bits(symbol: i8) -> Bits
-    requires { is_level symbol ≡ true }
-    ensures { result ≡ bits_of symbol }
-{
-    match Bits::of(symbol) {
-        Some(bits) => bits,
-        None => unreachable(),
+// The symbols of a data segment, which are levels.
+#[derive(Clone, Copy)]
+struct Symbols<'a> {
+    levels: &'a [i8; 828],
+    // How many first symbols of each encoder are not doubted.
+    undoubted: usize,
+    ghost each_level: { (place : ℕ) → place < 828 → is_level (slice_index_or levels.now place (pos 0)) ≡ true },
+}
+
+impl<'a> Symbols<'a> {
+    // The bits of the symbol at a place.
+    fn bits(&self, place: usize) -> Bits
+        requires { place < 828 }
+        ensures { result ≡ bits_of (slice_index_or self.now.levels.now place (pos 0)) }
+    {
+        Bits::of(self.levels[place]).unwrap()
     }
 }
 
@@ -79,60 +87,36 @@ impl Memory {
     }
 
     // Reads the encoder's next symbol as pair 0, 1, 2 or 3 of a byte, and joins it to the part of the byte so far.
-    fn read_pair(&mut self, part: Marked, pair: usize, symbol: i8, asked: bool) -> Marked
-        requires { is_level symbol ≡ true }
-        ensures { PairRead symbol asked pair part result self.old self.new }
+    fn read_pair(&mut self, part: Marked, pair: usize, bits: Bits, asked: bool) -> Marked
+        ensures { PairRead bits asked pair part result self.old self.new }
     {
-        let bits = level_bits(symbol);
         let read = self.take(bits, asked);
         part.joined(pair, read)
     }
+}
 
-    // Reads a lane's next symbol, and its next four where they carry a whole byte; the answer is the number of the symbol after them.
-    fn read_next(
-        &mut self,
-        symbols: &[i8],
-        lane: Lane,
-        undoubted: usize,
-        g: usize,
-        quad: &mut [Marked],
-    ) -> usize
-        requires symbols_whole { length symbols.now ≡ 828 }
-        requires levels { all_levels symbols.now ≡ true }
-        requires quad_whole { length quad.old ≡ 828 }
-        requires first { lane.first ≤ 207 }
-        requires place { lane.place < 12 }
-        requires group { g < 69 }
-        ensures { ReadsOn symbols.now lane.first lane.place undoubted g result quad.old quad.new self.old self.new }
-    {
+// A memory reads symbols into the bytes of a quad.
+impl<'a> Coder<Symbols<'a>, [Marked; 828]> for Memory {
+    ghost goes = { λ s first place g r before old after quad. ReadsOn s.levels.now first place s.undoubted g r before old after quad };
+
+    fn symbol(&mut self, symbols: &Symbols<'a>, lane: Lane, g: usize, quad: &mut [Marked; 828]) {
         let group = lane.first + g;
         let u = lane.byte(group);
-        let place = 12 * g + lane.place;
-        if group % 4 != 0 || g > 65 {
-            quad[u] = self.read_pair(quad[u], group % 4, symbols[place], g >= undoubted);
-            return g + 1;
-        }
-        let one = self.read_pair(quad[u], 0, symbols[place], g >= undoubted);
-        let two = self.read_pair(one, 1, symbols[place + 12], g + 1 >= undoubted);
-        let three = self.read_pair(two, 2, symbols[place + 24], g + 2 >= undoubted);
-        quad[u] = self.read_pair(three, 3, symbols[place + 36], g + 3 >= undoubted);
-        g + 4
+        let bits = symbols.bits(12 * g + lane.place);
+        quad[u] = self.read_pair(quad[u], group % 4, bits, g >= symbols.undoubted);
     }
 
-    // Reads the encoder's 69 symbols of a data segment; the first ones, as many as `undoubted`, are not doubted.
-    fn read_lane(&mut self, symbols: &[i8], lane: Lane, undoubted: usize, quad: &mut [Marked])
-        requires symbols_whole { length symbols.now ≡ 828 }
-        requires levels { all_levels symbols.now ≡ true }
-        requires quad_whole { length quad.old ≡ 828 }
-        requires first { lane.first ≤ 207 }
-        requires place { lane.place < 12 }
-        ensures { ReadsLane symbols.now lane.first lane.place undoubted 69 self.old quad.old quad.new self.new }
-    {
-        let mut g = 0;
-        while g < 69 {
-            g = self.read_next(symbols, lane, undoubted, g, quad);
+    fn byte(&mut self, symbols: &Symbols<'a>, lane: Lane, g: usize, quad: &mut [Marked; 828]) {
+        let u = lane.byte(lane.first + g);
+        let mut part = quad[u];
+        for pair in 0..4 {
+            let bits = symbols.bits(12 * (g + pair) + lane.place);
+            part = self.read_pair(part, pair, bits, g + pair >= symbols.undoubted);
         }
+        quad[u] = part;
     }
+
+    ghost laws = { record { stays = λ s f p g m q. λ start given h. h; joins = λ s f p a b c x y z i j k t u. λ start given h. u start given (t start given h) } };
 }
 
 // The reader of the twelve encoders' symbols.
@@ -161,23 +145,11 @@ impl Reader {
     }
 
     // Reads the symbols of one encoder in a data segment.
-    fn read_one(
-        &mut self,
-        e: usize,
-        symbols: &[i8],
-        lane: Lane,
-        undoubted: usize,
-        quad: &mut [Marked],
-    )
-        requires encoder { e < 12 }
-        requires first { lane.first ≤ 207 }
-        requires place { lane.place < 12 }
-        requires symbols_whole { length symbols.now ≡ 828 }
-        requires levels { all_levels symbols.now ≡ true }
-        requires quad_whole { length quad.old ≡ 828 }
-        ensures { ReadsOne symbols.now lane.first lane.place undoubted e self.old.memories quad.old quad.new self.new.memories }
+    fn read_one(&mut self, e: usize, symbols: &Symbols, lane: Lane, quad: &mut [Marked; 828])
+        requires { e < 12 }
+        ensures { ReadsOne symbols.now.levels.now lane.first lane.place symbols.now.undoubted e self.old.memories quad.old quad.new self.new.memories }
     {
-        self.memories[e].read_lane(symbols, lane, undoubted, quad);
+        walk(&mut self.memories[e], symbols, lane, quad);
     }
 
     // Reads the 828 symbols of the next data segment into its quad's bytes; of the segment's number since the start the remainder mod 12 counts.
@@ -190,23 +162,23 @@ impl Reader {
         ensures answer { result ≡ read_answer symbols.now (length quad.old) }
         ensures after { MatchResult result (λ _. Reads symbols.now segment self.old.memories self.old.undoubted quad.old quad.new self.new.memories self.new.undoubted) (λ _. (self.new ≡ self.old) × (quad.new ≡ quad.old)) }
     {
-        if symbols.len() != 828 || quad.len() != 828 {
+        let Some(levels) = symbols.as_array() else {
             return Err(Refusal::WrongLength);
-        }
-        if !are_levels(symbols) {
+        };
+        let Some(quad) = quad.as_mut_array() else {
+            return Err(Refusal::WrongLength);
+        };
+        if !are_levels(levels) {
             return Err(Refusal::NotALevel);
         }
         let turn = 4 * (segment % 3);
         let first = 69 * (segment % 4);
-        let undoubted = self.undoubted;
+        let received = Symbols {
+            levels,
+            undoubted: self.undoubted,
+        };
         for place in 0..12 {
-            self.read_one(
-                (place + turn) % 12,
-                symbols,
-                Lane { first, place },
-                undoubted,
-                quad,
-            );
+            self.read_one((place + turn) % 12, &received, Lane { first, place }, quad);
         }
         self.undoubted = 0;
         Ok(())

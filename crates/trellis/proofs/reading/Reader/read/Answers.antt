@@ -1,19 +1,29 @@
-use Rattle.std.proofs.Common.{◌≡◌, arith, rules}
+use Rattle.std.proofs.Common.{◌≡◌, length, ◌≢◌, arith, rules}
+use Rattle.trellis.proofs.Write.{each_level}
 use Rattle.trellis.proofs.Read.{read_none, read_more, read_all}
 use Rattle.trellis.proofs.reading.Reader.read.Goals as goal
 
+pub returns-in_default-as_mut_array-clause-answer : goal.returns-in_default-as_mut_array-clause-answer
+returns-in_default-as_mut_array-clause-answer c =
+    let n : length c.args.quad.now ≢ 828 = search rules in
+    let l : length c.args.symbols.now ≡ 828 = search rules in
+    search rules
+
+pub invariant_of-received : goal.invariant_of-received
+invariant_of-received c =
+    let l : length c.in-Some.levels.now ≡ 828 = search rules in
+    record { each_level = λ p h. each_level c.in-Some.levels.now (cc) p (omega arith) }
+
 pub loop-place-init : goal.loop-place-init
-loop-place-init c = read_none c.args.symbols.now c.args.segment c.args.self.now.memories c.args.self.now.undoubted c.args.quad.now
+loop-place-init c = read_none _ _ _ _ _
 
 pub loop-place-preserved : goal.loop-place-preserved
 loop-place-preserved c =
-    read_more c.args.symbols.now c.args.segment c.args.self.now.memories c.args.self.now.undoubted c.args.quad.now c.loop-place.place c.loop-place.quad c.read_one.new.quad c.loop-place.self.memories c.read_one.new.self.memories
-    (omega arith) c.read_one.ensures c.loop-place.invariant
+    let s : c.in-Some.levels.now ≡ c.args.symbols.now = search rules in
+    read_more _ _ _ _ _ _ _ _ _ _ (omega arith) (rw s at c.read_one.ensures) c.loop-place.invariant
 
 pub returns : goal.returns
 returns c =
     let e : c.loop-place.place ≡ 12 = omega arith in
-    record {
-      answer = search rules;
-      after = read_all c.args.symbols.now c.args.segment c.args.self.now.memories c.args.self.now.undoubted c.args.quad.now c.loop-place.quad c.loop-place.self.memories (rw e at c.loop-place.invariant);
-    }
+    let q : c.in-Some-as_mut_array.quad.now ≡ c.args.quad.now = search rules in
+    record { answer = search rules; after = rw q at (read_all _ _ _ _ _ _ _ (rw e at c.loop-place.invariant)) }
