@@ -1,13 +1,13 @@
 -- One symbol more of a lane.
-use Rattle.std.proofs.Common.{◌≡◌, ℕ, ◌+◌, ◌-◌, ◌*◌, ◌/◌, ◌%◌, ◌<◌, ◌≤◌, Bool, true, ◌≢◌, List, length, get_or, set, ℤ, pos, sym, refl, ap, ◌∙◌, subst, add-zero, add-one, arith, below_more}
-use Rattle.std.proofs.lemmas.List.{get_or-set_same, get_or-set_other}
+use Rattle.std.proofs.Common.{◌≡◌, ℕ, ◌+◌, ◌-◌, ◌*◌, ◌/◌, ◌%◌, ◌<◌, ◌≤◌, Bool, true, ◌≢◌, List, length, get_or, set, ℤ, pos, refl, ap, ◌∙◌, add-zero, add-one, arith, below_more}
+use Rattle.std.proofs.lemmas.List.{get_or-set_same, get_or-set_other, length-set}
 use Rattle.level.specs.Level.{level_of, is_level}
 use Rattle.level.proofs.Levels.{level_laws}
 use Rattle.trellis.specs.declared.encoding.Encoder.{Encoder}
 use Rattle.trellis.specs.Places.{byte_of}
 use Rattle.trellis.specs.Sent.{bit_of, sent_bits, stepped, x2_of, x1_of, encoder_before, group_level}
-use Rattle.trellis.specs.Writer.{QuadOf, lane_encoder, lane_byte, LaneWritten, WritesLane, PairWritten}
-use Rattle.trellis.proofs.Numbers.{lane_byte_is, lane_byte_below, lane_group_is}
+use Rattle.trellis.specs.Writer.{QuadOf, lane_encoder, lane_byte, LaneWritten, WritesLane, PairSent}
+use Rattle.trellis.proofs.Numbers.{lane_byte_is, lane_byte_below, byte_kept, lane_group_is}
 
 -- the encoder a group on
 encoder_on : (bytes : ℕ → ℕ) (e q : ℕ) → encoder_before bytes e (q + 1) ≡ stepped (encoder_before bytes e q) (x2_of bytes e q) (x1_of bytes e q)
@@ -71,11 +71,34 @@ module _ (quad : List ℕ) (first place : ℕ) (before : Encoder) (old : List �
           by_history = history_more;
         }
 
-  pub lane_more : (g : ℕ) (out out' : List ℤ) (encoder encoder' : Encoder) → place < 12 → first ≤ 207 → g < 69 → length out ≡ 828 → (u : ℕ) → u ≡ lane_byte first place (first + g)
-      → (pair : ℕ) → pair ≡ (first + g) % 4 → (p : ℕ) → p ≡ 12 * g + place → PairWritten (get_or quad u 0) pair p out out' encoder encoder'
-      → WritesLane quad first place g before old out encoder → WritesLane quad first place (g + 1) before old out' encoder'
-  lane_more g out out' encoder encoder' pl fl gl len u u_is pair pair_is p p_is w h =
-      let new : ℤ = level_of (sent_bits encoder (bit_of (get_or quad u 0) (7 - 2 * pair)) (bit_of (get_or quad u 0) (6 - 2 * pair))) in
-      subst (λ (o : List ℤ). WritesLane quad first place (g + 1) before old o encoder') (sym (w.symbol ∙ ap (λ (k : ℕ). set out k new) p_is))
+  pub lane_more : (g : ℕ) (out : List ℤ) (encoder encoder' : Encoder) → place < 12 → first ≤ 207 → g < 69 → length out ≡ 828 → (u : ℕ) → u ≡ lane_byte first place (first + g)
+      → (pair : ℕ) → pair ≡ (first + g) % 4 → (p : ℕ) → p ≡ 12 * g + place → (level : ℤ) → PairSent (get_or quad u 0) pair level encoder encoder'
+      → WritesLane quad first place g before old out encoder → WritesLane quad first place (g + 1) before old (set out p level) encoder'
+  lane_more g out encoder encoder' pl fl gl len u u_is pair pair_is p p_is level w h =
+      rw p_is
       (lane_step g out encoder pl fl gl len u u_is (bit_of (get_or quad u 0) (7 - 2 * pair)) (bit_of (get_or quad u 0) (6 - 2 * pair))
-      (ap (λ (k : ℕ). bit_of (get_or quad u 0) (7 - 2 * k)) pair_is) (ap (λ (k : ℕ). bit_of (get_or quad u 0) (6 - 2 * k)) pair_is) new refl encoder' w.encoder_after h)
+      (ap (λ (k : ℕ). bit_of (get_or quad u 0) (7 - 2 * k)) pair_is) (ap (λ (k : ℕ). bit_of (get_or quad u 0) (6 - 2 * k)) pair_is) level w.level_is encoder' w.encoder_after h)
+
+-- four symbols more, which carry a whole byte
+module _ (quad : List ℕ) (first place : ℕ) (before : Encoder) (old : List ℤ) (g : ℕ) (pl : place < 12) (fl : first ≤ 207) (gl : g ≤ 65) (whole : (first + g) % 4 ≡ 0)
+    (u : ℕ) (u_is : u ≡ lane_byte first place (first + g)) (p : ℕ) (p_is : p ≡ 12 * g + place) where
+  -- one of the four
+  one : (i : ℕ) → i < 4 → (out : List ℤ) (encoder encoder' : Encoder) → length out ≡ 828 → (level : ℤ) → PairSent (get_or quad u 0) i level encoder encoder'
+      → WritesLane quad first place (g + i) before old out encoder → WritesLane quad first place (g + i + 1) before old (set out (p + 12 * i) level) encoder'
+  one i l out encoder encoder' len level w h =
+      lane_more quad first place before old (g + i) out encoder encoder' pl fl (omega arith) len u (u_is ∙ byte_kept first place (first + g) (first + (g + i)) (omega arith)) i (omega arith) (p + 12 * i) (omega arith) level w h
+
+  pub lane_four : (out : List ℤ) (a b c d : ℤ) (e0 e1 e2 e3 e4 : Encoder) → length out ≡ 828
+      → PairSent (get_or quad u 0) 0 a e0 e1 → PairSent (get_or quad u 0) 1 b e1 e2 → PairSent (get_or quad u 0) 2 c e2 e3 → PairSent (get_or quad u 0) 3 d e3 e4
+      → WritesLane quad first place g before old out e0 → WritesLane quad first place (g + 4) before old (set (set (set (set out p a) (p + 12) b) (p + 24) c) (p + 36) d) e4
+  lane_four out a b c d e0 e1 e2 e3 e4 l w0 w1 w2 w3 h =
+      let z0 : g + 0 ≡ g = omega arith in
+      let p0 : p + 0 ≡ p = omega arith in
+      let z1 : g + 0 + 1 ≡ g + 1 = omega arith in
+      let z2 : g + 1 + 1 ≡ g + 2 = omega arith in
+      let z3 : g + 2 + 1 ≡ g + 3 = omega arith in
+      let z4 : g + 3 + 1 ≡ g + 4 = omega arith in
+      let h1 = rw (z1, p0) at (one 0 (omega arith) out e0 e1 l a w0 (rw z0 h)) in
+      let h2 = rw z2 at (one 1 (omega arith) (set out p a) e1 e2 (simp length-set l) b w1 h1) in
+      let h3 = rw z3 at (one 2 (omega arith) (set (set out p a) (p + 12) b) e2 e3 (simp length-set l) c w2 h2) in
+      rw z4 at (one 3 (omega arith) (set (set (set out p a) (p + 12) b) (p + 24) c) e3 e4 (simp length-set l) d w3 h3)

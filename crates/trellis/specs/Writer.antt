@@ -1,5 +1,5 @@
 -- What the writer of data symbols answers, and what it leaves.
-use Rattle.std.specs.Prelude.{◌≡◌, ℕ, ◌+◌, ◌-◌, ◌*◌, ◌/◌, ◌%◌, ◌<◌, true, cond, ◌≢◌, List, ℤ, pos, Ok, Err, Result, ◌==◌, nat_lt, slice_index, slice_index_or, slice_set}
+use Rattle.std.specs.Prelude.{◌≡◌, ℕ, ◌+◌, ◌-◌, ◌*◌, ◌/◌, ◌%◌, ◌<◌, true, cond, ◌≢◌, List, ℤ, pos, Ok, Err, Result, ◌==◌, nat_lt, slice_index, slice_index_or}
 use Rattle.level.specs.Level.{level_of, is_level, all_levels}
 use Rattle.refusal.specs.declared.Refusal.{Refusal}
 use Rattle.refusal.specs.declared.Refusal.TheVariants.{WrongLength}
@@ -47,9 +47,9 @@ pub record WritesLane (quad : List ℕ) (first place count : ℕ) (before : Enco
   pub others_stay : (p : ℕ) → p % 12 ≢ place → slice_index_or out p (pos 0) ≡ slice_index_or old p (pos 0)
   pub by_history : (bytes : ℕ → ℕ) (n : ℕ) → first ≡ 69 * (n % 4) → QuadOf bytes (n / 4) quad → before ≡ encoder_before bytes (lane_encoder n place) (69 * n) → LaneWritten bytes n place count out after
 
--- a pair of a byte's bits, 0 the highest, is sent to a place of the symbols
-pub record PairWritten (byte pair place : ℕ) (old out : List ℤ) (before after : Encoder) : Type 0 where
-  pub symbol : out ≡ slice_set old place (level_of (sent_bits before (bit_of byte (7 - 2 * pair)) (bit_of byte (6 - 2 * pair))))
+-- a pair of a byte's bits, 0 the highest, is sent as a level
+pub record PairSent (byte pair : ℕ) (level : ℤ) (before after : Encoder) : Type 0 where
+  pub level_is : level ≡ level_of (sent_bits before (bit_of byte (7 - 2 * pair)) (bit_of byte (6 - 2 * pair)))
   pub encoder_after : after ≡ stepped before (bit_of byte (7 - 2 * pair)) (bit_of byte (6 - 2 * pair))
 
 -- an encoder goes on from symbol g of a lane to symbol r, whatever it wrote before

@@ -64,7 +64,10 @@ impl<'a> Symbols<'a> {
         requires { place < 828 }
         ensures { result ≡ bits_of (slice_index_or self.now.levels.now place (pos 0)) }
     {
-        Bits::of(self.levels[place]).unwrap()
+        let Some(bits) = Bits::of(self.levels[place]) else {
+            unreachable!()
+        };
+        bits
     }
 }
 
@@ -149,7 +152,10 @@ impl Reader {
         requires { e < 12 }
         ensures { ReadsOne symbols.now.levels.now lane.first lane.place symbols.now.undoubted e self.old.memories quad.old quad.new self.new.memories }
     {
-        walk(&mut self.memories[e], symbols, lane, quad);
+        // A copy is worked on, since its bits stay in registers, which is faster.
+        let mut memory = self.memories[e];
+        walk(&mut memory, symbols, lane, quad);
+        self.memories[e] = memory;
     }
 
     // Reads the 828 symbols of the next data segment into its quad's bytes; of the segment's number since the start the remainder mod 12 counts.

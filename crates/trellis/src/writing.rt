@@ -1,22 +1,19 @@
 // The writer of data symbols.
 ghost use Rattle.std.specs.Prelude.{◌≡◌, ℕ, ◌<◌, length, replicate, MatchResult};
 ghost use Rattle.trellis.specs.Sent.{new_encoder};
-ghost use Rattle.trellis.specs.Writer.{EncodersAfter, write_answer, PairWritten, Writes, WritesOn, WritesOne};
+ghost use Rattle.trellis.specs.Writer.{EncodersAfter, write_answer, PairSent, Writes, WritesOn, WritesOne};
 
 use crate::encoding::{Encoder, is_set};
 use crate::lanes::{Coder, Lane, walk};
 use refusal::Refusal;
 
 impl Encoder {
-    // Sends a pair of a byte's bits, pair 0 being the highest, to a place of the symbols.
-    fn write_pair(&mut self, byte: u8, pair: usize, place: usize, out: &mut [i8; 828])
-        requires pair { pair < 4 }
-        requires inside { place < 828 }
-        ensures { PairWritten byte pair place out.old out.new self.old self.new }
+    // The level for a pair of a byte's bits, pair 0 being the highest; the encoder moves on.
+    fn send_pair(&mut self, byte: u8, pair: usize) -> i8
+        requires { pair < 4 }
+        ensures { PairSent byte pair result self.old self.new }
     {
-        let x2 = is_set(byte, 7 - 2 * pair);
-        let x1 = is_set(byte, 6 - 2 * pair);
-        out[place] = self.step(x2, x1);
+        self.step(is_set(byte, 7 - 2 * pair), is_set(byte, 6 - 2 * pair))
     }
 }
 
@@ -27,14 +24,23 @@ impl Coder<[u8; 828], [i8; 828]> for Encoder {
     fn symbol(&mut self, quad: &[u8; 828], lane: Lane, g: usize, out: &mut [i8; 828]) {
         let group = lane.first + g;
         let byte = quad[lane.byte(group)];
-        self.write_pair(byte, group % 4, 12 * g + lane.place, out);
+        out[12 * g + lane.place] = self.send_pair(byte, group % 4);
     }
 
     fn byte(&mut self, quad: &[u8; 828], lane: Lane, g: usize, out: &mut [i8; 828]) {
         let byte = quad[lane.byte(lane.first + g)];
-        for pair in 0..4 {
-            self.write_pair(byte, pair, 12 * (g + pair) + lane.place, out);
-        }
+        // Four calls, and no store before the last: so the encoder's bits stay in registers, which is faster.
+        let levels = [
+            self.send_pair(byte, 0),
+            self.send_pair(byte, 1),
+            self.send_pair(byte, 2),
+            self.send_pair(byte, 3),
+        ];
+        let place = 12 * g + lane.place;
+        out[place] = levels[0];
+        out[place + 12] = levels[1];
+        out[place + 24] = levels[2];
+        out[place + 36] = levels[3];
     }
 
     ghost laws = { record { stays = λ q f p g e o. λ start given h. h; joins = λ q f p a b c x y z i j k s t. λ start given h. t start given (s start given h) } };
