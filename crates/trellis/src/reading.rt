@@ -22,7 +22,7 @@ struct Pair {
 }
 
 // What is kept of one encoder: Z2 and Z0 of its last symbol, and the Z0 that its next symbol should have.
-#[derive(Clone, Copy)]
+#[derive(Clone, Copy, Default)]
 struct Memory {
     z2: bool,
     z0: bool,
@@ -138,11 +138,7 @@ impl Reader {
         ensures history { (levels : ℕ → ℤ) → ReaderAfter levels 0 result.memories result.undoubted }
     {
         Reader {
-            memories: [Memory {
-                z2: false,
-                z0: false,
-                expected: false,
-            }; 12],
+            memories: [Memory::default(); 12],
             undoubted: 2,
         }
     }
