@@ -19,12 +19,12 @@ pub fn write_data_segment(
     ensures answer { result ≡ write_answer (length quad.now) (length out.old) }
     ensures after { MatchResult result (λ _. SegmentWritten quad.now segment trellis.old out.new trellis.new) (λ _. (trellis.new ≡ trellis.old) × (out.new ≡ out.old)) }
 {
-    if quad.len() != 828 || out.len() != 832 {
+    if quad.len() != 828 {
         return Err(Refusal::WrongLength);
     }
     write_data_sync(out)?;
-    trellis.write(quad, segment, &mut out[4..832])?;
-    Ok(())
+    let (_, symbols) = out.split_at_mut(4);
+    trellis.write(quad, segment, symbols)
 }
 
 #[cfg(test)]

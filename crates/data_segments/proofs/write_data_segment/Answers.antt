@@ -1,12 +1,12 @@
-use Rattle.std.proofs.Common.{arith, rules}
-use Rattle.data_segments.proofs.Joined.{joined}
+use Rattle.std.proofs.Common.{◌≡◌, drop, Ok, refl, rules}
+use Rattle.segments.specs.Segment.{data_segment}
 use Rattle.data_segments.proofs.write_data_segment.Goals as goal
 
-pub returns : goal.returns
-returns c =
-    record {
-      answer = search rules;
-      after =
-          joined c.args.quad.now c.args.segment c.args.trellis.now c.write.new.self c.args.out.now c.write_data_sync.new.segment c.write.new.out
-          (omega arith) (search rules) (search rules);
-    }
+pub returns-clause-answer : goal.returns-clause-answer
+returns-clause-answer c = search rules
+
+pub returns-clause-after : goal.returns-clause-after
+returns-clause-after c =
+    let r : c.write.result ≡ Ok tt = search rules in
+    let e : c.write_data_sync.new.segment ≡ data_segment (drop 4 c.args.out.now) = search rules in
+    rw (r, c.split_at_mut-symbols.ensures.front, e) (record { synced = refl; symbols = rw r at c.write.ensures.after })
