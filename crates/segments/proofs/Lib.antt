@@ -3,5 +3,4 @@ pub mod Bits
 pub mod Numbers
 pub mod Levels
 pub mod Back
-pub mod Written
 pub mod Made

@@ -1,39 +1,15 @@
 -- Counts and numbers made of bits.
 use Rattle.std.proofs.Common.{◌≡◌, ℕ, zero, suc, ◌+◌, ◌-◌, ◌*◌, ◌/◌, ◌%◌, ◌^◌, ◌<◌, ◌≤◌, Bool, true, false, cond, ltb, bit_or, refl, ap, ◌∙◌, add-zero, add-one, arith, pow_mono}
-use mir.Val.{bool_byte}
 use Rattle.std.specs.List.{fold, range_with_len}
 use Rattle.tables.proofs.All.{agree}
 use Rattle.level.specs.Level.{bit}
 use Rattle.segments.specs.Pn.{odd}
 use Rattle.segments.specs.Report.{count, number}
 
--- a bool as a number is a bit
-bool_bit : (b : Bool) → bool_byte b ≡ bit b
-bool_bit true = refl
-bool_bit false = refl
-
 -- a bit is at most one
 bit_small : (b : Bool) → bit b ≤ 1
 bit_small true = omega arith
 bit_small false = omega arith
-
--- one more number tested
-pub count_more : (test : ℕ → Bool) (n c : ℕ) (b : Bool) → c ≡ count test n → b ≡ test n → c + bool_byte b ≡ count test (n + 1)
-unfolding count
-count_more test n c b e f = rw (add-one, bool_bit b, e, f) refl
-
--- a count is at most the number of tests
-count_small : (test : ℕ → Bool) (n : ℕ) → count test n ≤ n
-unfolding count
-count_small test zero = omega arith
-count_small test (suc n) = let h = count_small test n in let b = bit_small (test n) in omega arith
-
--- with one test more, up to 511 tests fit 16 bits
-pub count_fits : (test : ℕ → Bool) (n c : ℕ) (b : Bool) → c ≡ count test n → n < 511 → c + bool_byte b < 2 ^ 16
-count_fits test n c b e h =
-    let s = count_small test n in
-    let t = bit_small b in
-    rw (bool_bit b) (omega arith)
 
 -- tests with the same results
 pub count_same : (f g : ℕ → Bool) (n : ℕ) → ((k : ℕ) → k < n → f k ≡ g k) → count f n ≡ count g n
@@ -47,24 +23,11 @@ unfolding count
 count_always test b zero h = omega arith
 count_always test b (suc n) h = let i = count_always test b n (λ k l. h k (omega arith)) in rw (h n (omega arith)) (omega arith)
 
--- one more bit
-pub number_more : (bits : ℕ → Bool) (n c : ℕ) (b : Bool) → c ≡ number bits n → b ≡ bits n → 2 * c + bool_byte b ≡ number bits (n + 1)
-unfolding number
-number_more bits n c b e f = rw (add-one, bool_bit b, e, f) refl
-
 -- a number of n bits is below 2 to the n
 number_small : (bits : ℕ → Bool) (n : ℕ) → number bits n < 2 ^ n
 unfolding number
 number_small bits zero = omega arith
 number_small bits (suc n) = let h = number_small bits n in let b = bit_small (bits n) in omega arith
-
--- with one bit more, up to eight bits fit a byte
-pub number_fits : (bits : ℕ → Bool) (n c : ℕ) (b : Bool) → c ≡ number bits n → n < 8 → 2 * c + bool_byte b < 2 ^ 8
-number_fits bits n c b e h =
-    let s = number_small bits n in
-    let m = pow_mono {i = n} {j = 7} (omega arith) in
-    let t = bit_small b in
-    rw (bool_bit b) (omega arith)
 
 -- a number with one more bit, as a byte is shifted
 abbrev pub pushed : (ℕ → Bool) → ℕ → ℕ → ℕ

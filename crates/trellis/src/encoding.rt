@@ -6,7 +6,7 @@ ghost use Rattle.trellis.specs.Sent.{new_encoder, sent_bits, stepped, bit_of};
 use level::Bits;
 
 // The three bits of an encoder.
-#[derive(Clone, Copy)]
+#[derive(Clone, Copy, Default)]
 pub struct Encoder {
     y: bool,
     a: bool,
@@ -18,11 +18,7 @@ impl Encoder {
     pub fn new() -> Encoder
         ensures { result ≡ new_encoder }
     {
-        Encoder {
-            y: false,
-            a: false,
-            b: false,
-        }
+        Encoder::default()
     }
 
     // The level for the bits X2 and X1; the encoder moves on.

@@ -71,10 +71,7 @@ mod tests {
     fn reads_damage(rt: HostRuntime) -> Result<(), Fail> {
         let mut sent = [0; 828];
         let mut symbols = [0; 828];
-        let mut quad = [Marked {
-            byte: 0,
-            marked: false,
-        }; 828];
+        let mut quad = [Marked::default(); 828];
         sent[0] = 0xC0;
         Trellis::new().write(&sent, 0, &mut symbols)?;
         assert_eq!(rt; symbols[36], 3);
@@ -90,10 +87,7 @@ mod tests {
     #[test]
     fn reads_marks(rt: HostRuntime) -> Result<(), Fail> {
         let mut symbols = [-7; 828];
-        let mut quad = [Marked {
-            byte: 0,
-            marked: false,
-        }; 828];
+        let mut quad = [Marked::default(); 828];
         symbols[1] = -1;
         symbols[13] = 1;
         symbols[25] = -5;
@@ -113,10 +107,7 @@ mod tests {
     // A short memory and a number that is no level are refused.
     #[test]
     fn refuses(rt: HostRuntime) {
-        let mut quad = [Marked {
-            byte: 0,
-            marked: false,
-        }; 828];
+        let mut quad = [Marked::default(); 828];
         assert_eq!(rt;
             Reader::new().read(&[0; 827], 0, &mut quad),
             Err(Refusal::WrongLength)

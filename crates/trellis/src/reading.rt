@@ -8,7 +8,7 @@ use level::{Bits, are_levels};
 use refusal::Refusal;
 
 // A byte as read, and whether one of its symbols was doubted.
-#[derive(Clone, Copy)]
+#[derive(Clone, Copy, Default)]
 pub struct Marked {
     pub byte: u8,
     pub marked: bool,

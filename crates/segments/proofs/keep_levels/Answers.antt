@@ -1,7 +1,7 @@
-use Rattle.std.proofs.Common.{◌≡◌, ◌≤◌, length, get_or, pos, ap, ◌∙◌, arith, w8, SFits, to_z, of_z, rules}
+use Rattle.std.proofs.Common.{◌≡◌, get_or, pos, ap, ◌∙◌, arith, w8, SFits, to_z, of_z, rules}
 use Rattle.std.proofs.lemmas.Int.{to_z-of_z}
 use Rattle.std.proofs.lemmas.List.Edits.{map_over_more}
-use Rattle.std.proofs.lemmas.List.{get_or_default, take_all, drop_all, append-nil}
+use Rattle.std.proofs.lemmas.List.{get_or_default}
 use Rattle.segments.specs.Segment.{copied_level}
 use Rattle.segments.proofs.keep_levels.Goals as goal
 
@@ -14,8 +14,3 @@ loop-symbol-preserved c =
     simp e
     (map_over_more copied_level c.args.symbols.now c.loop-symbol.symbols c.loop-symbol.symbol-index (get_or c.loop-symbol.symbols c.loop-symbol.symbol-index (pos 0)) (omega arith) c.loop-symbol.invariant
     (get_or_default c.loop-symbol.symbols c.loop-symbol.symbol-index (pos 0) _ (omega arith)))
-
-pub returns : goal.returns
-returns c =
-    let h : length c.args.symbols.now ≤ c.loop-symbol.symbol-index = omega arith in
-    c.loop-symbol.invariant ∙ simp (take_all, drop_all, append-nil)
