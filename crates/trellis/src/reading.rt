@@ -173,6 +173,7 @@ impl Reader {
         if !are_levels(levels) {
             return Err(Refusal::NotALevel);
         }
+        // The writer has this loop too: what is promised of the twelve lanes differs, and one loop over both would be no plainer.
         let turn = 4 * (segment % 3);
         let first = 69 * (segment % 4);
         let received = Symbols {
