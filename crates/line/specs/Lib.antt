@@ -7,3 +7,4 @@ pub mod Slots
 pub mod Ring
 pub mod Bottom
 pub mod Layer
+pub mod Levels

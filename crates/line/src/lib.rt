@@ -7,6 +7,7 @@ ghost use Rattle.line.specs.Refusals.{fault_number, found_here, under_a_layer};
 ghost use Rattle.line.specs.Line.{put_answer, take_answer};
 ghost use Rattle.line.specs.Laws.{LineLaws};
 
+pub mod levels;
 pub mod ring;
 
 // Why a line refuses.
