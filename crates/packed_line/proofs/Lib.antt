@@ -1,1 +1,3 @@
-mod Groups
+pub mod Arrays
+pub mod Packs
+pub mod Groups

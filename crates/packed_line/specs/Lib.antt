@@ -1,4 +1,2 @@
 pub mod Packing
 pub mod Packed
-pub mod Slots
-pub mod Packs

@@ -4,8 +4,13 @@ use Rattle.line.specs.State.{State}
 use Rattle.line.specs.Slots.{fits_ring}
 use Rattle.line.specs.Ring.{slots}
 use Rattle.line.specs.Bottom.{bottom_state}
-use Rattle.packed_line.specs.Packing.{packed_slot}
-use Rattle.packed_line.specs.declared.PackedLine.{PackedLine}
+use Rattle.slot_line.specs.declared.SlotLine.{SlotLine}
+use Rattle.packed_line.specs.Packing.{unpacked, packed_slot}
+use Rattle.packed_line.specs.declared.Packed.{Packed}
+
+-- a line over slots of 312 bytes, eight symbols in three bytes
+abbrev pub PackedLine : Type 0
+PackedLine = SlotLine Packed ℕ (record { CELLS = 312; segment_in = unpacked })
 
 -- the meaning of a packed line
 abbrev pub packed_state : PackedLine → State

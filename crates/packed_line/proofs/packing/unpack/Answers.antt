@@ -1,13 +1,12 @@
-use Rattle.std.proofs.Common.{◌*◌, sym, refl, ap, ◌∙◌, arith}
-use Rattle.std.proofs.lemmas.List.{take_all}
-use Rattle.packed_line.specs.Packing.{unpacked}
-use Rattle.packed_line.proofs.Groups.{unpacked_group}
+use Rattle.std.proofs.Common.{◌≡◌, ◌-◌, ◌*◌, ◌/◌, ◌%◌, ◌^◌, ◌<◌, get_or, rules}
+use Rattle.packed_line.specs.Packing.{level_from, three_bytes}
+use Rattle.packed_line.proofs.Arrays.{each_of}
+use Rattle.packed_line.proofs.Packs.{unpack_is}
 use Rattle.packed_line.proofs.packing.unpack.Goals as goal
-
-pub loop-i-preserved : goal.loop-i-preserved
-loop-i-preserved c = unpacked_group c.args.slot.now c.loop-i.segment c.spread.new.symbols c.loop-i.i _ _ (omega arith) (omega arith) refl c.spread.ensures c.loop-i.invariant
 
 pub returns : goal.returns
 returns c =
-    sym (take_all (8 * c.loop-i.i) c.loop-i.segment (omega arith)) ∙ c.loop-i.invariant ∙
-    ap unpacked (take_all (3 * c.loop-i.i) c.args.slot.now (omega arith))
+    let xs = c.args.bytes.now in
+    let n = three_bytes (get_or xs 0 0) (get_or xs 1 0) (get_or xs 2 0) in
+    let e = each_of _ (λ k y. k < 8 → y ≡ level_from (n / 2 ^ (21 - 3 * k) % 8)) _ (λ k y q h. search rules) c.from_fn.result 8 c.from_fn.ensures.items in
+    unpack_is c.from_fn.result xs c.from_fn.ensures.items.long (search rules) (λ k d h. e k d h h)

@@ -1,10 +1,7 @@
 -- Laws of eight symbols in three bytes.
-use Rattle.std.specs.Prelude.{◌≡◌, ℕ, zero, suc, ◌+◌, ◌*◌, ◌/◌, ◌%◌, ◌^◌, ◌<◌, true, List, [], ◌∷◌, ◌++◌, length, ℤ, pos, negsuc, slice_index_or, slice_set, refl}
-use Rattle.std.proofs.Common.{sym, ap, ◌∙◌, arith, to_z, of_z}
+use Rattle.std.proofs.Common.{◌≡◌, ℕ, zero, suc, ◌+◌, ◌-◌, ◌*◌, ◌/◌, ◌%◌, ◌^◌, ◌<◌, true, List, [], ◌∷◌, ◌++◌, length, get_or, ℤ, pos, negsuc, sym, refl, ap, ◌∙◌, subst, arith}
 use Rattle.level.specs.Level.{is_level, all_levels, z_of}
-use Rattle.std.specs.Int.{w8}
-use Rattle.std.proofs.lemmas.Int.{to_z-of_z}
-use Rattle.level.proofs.Levels.{levels_append, levels_at, level_fits}
+use Rattle.level.proofs.Levels.{levels_append, levels_at}
 use Rattle.packed_line.specs.Packing.{level_from, eight_symbols, three_bytes, unpacked}
 
 -- the level of a level's number
@@ -66,21 +63,9 @@ eight_of a b c d e f g h la lb lc ld le lf lg lh =
     let ph : n % 8 ≡ h = omega arith in
     same_eight (ap level_from pa) (ap level_from pb) (ap level_from pc) (ap level_from pd) (ap level_from pe) (ap level_from pf) (ap level_from pg) (ap level_from ph)
 
--- the number of one of several levels, as it is read
-number_read : (xs : List ℤ) (i z : ℕ) → all_levels xs ≡ true → i < length xs → z ≡ z_of (to_z w8 (of_z w8 (slice_index_or xs i (pos 0)))) → level_from z ≡ slice_index_or xs i (pos 0)
-number_read xs i z e h q = let l = levels_at xs i e h in ap level_from (q ∙ ap z_of (to_z-of_z w8 (slice_index_or xs i (pos 0)) (level_fits (slice_index_or xs i (pos 0)) l))) ∙ level_back (slice_index_or xs i (pos 0)) l
-
--- the number that is written for three bits
-written : (v : ℤ) (n : ℕ) → v ≡ level_from (n % 8) → to_z w8 (of_z w8 v) ≡ level_from (n % 8)
-written v n e = to_z-of_z w8 v (level_fits v (ap is_level e ∙ level_of_bits n)) ∙ e
-
--- the three bytes of 24 bits
-pub bytes_back : (n : ℕ) → n < 2 ^ 24 → three_bytes (n / 65536) (n / 256 % 256) (n % 256) ≡ n
-bytes_back n h = omega arith
-
 -- a list of eight symbols
 pub eight_list : (xs : List ℤ) → length xs ≡ 8 →
-    xs ≡ slice_index_or xs 0 (pos 0) ∷ slice_index_or xs 1 (pos 0) ∷ slice_index_or xs 2 (pos 0) ∷ slice_index_or xs 3 (pos 0) ∷ slice_index_or xs 4 (pos 0) ∷ slice_index_or xs 5 (pos 0) ∷ slice_index_or xs 6 (pos 0) ∷ slice_index_or xs 7 (pos 0) ∷ []
+    xs ≡ get_or xs 0 (pos 0) ∷ get_or xs 1 (pos 0) ∷ get_or xs 2 (pos 0) ∷ get_or xs 3 (pos 0) ∷ get_or xs 4 (pos 0) ∷ get_or xs 5 (pos 0) ∷ get_or xs 6 (pos 0) ∷ get_or xs 7 (pos 0) ∷ []
 eight_list [] h = absurd (omega arith)
 eight_list (a ∷ []) h = absurd (omega arith)
 eight_list (a ∷ b ∷ []) h = absurd (omega arith)
@@ -92,37 +77,36 @@ eight_list (a ∷ b ∷ c ∷ d ∷ e ∷ f ∷ g ∷ []) h = absurd (omega arit
 eight_list (a ∷ b ∷ c ∷ d ∷ e ∷ f ∷ g ∷ i ∷ []) h = refl
 eight_list (a ∷ b ∷ c ∷ d ∷ e ∷ f ∷ g ∷ i ∷ x ∷ xs) h = absurd (omega arith)
 
--- the 24 bits gathered from eight symbols
-pub gathered_is : (xs : List ℤ) (a b c d e f g h : ℕ) → length xs ≡ 8 → all_levels xs ≡ true →
-    a < 8 → b < 8 → c < 8 → d < 8 → e < 8 → f < 8 → g < 8 → h < 8 →
-    a ≡ z_of (to_z w8 (of_z w8 (slice_index_or xs 0 (pos 0)))) → b ≡ z_of (to_z w8 (of_z w8 (slice_index_or xs 1 (pos 0)))) → c ≡ z_of (to_z w8 (of_z w8 (slice_index_or xs 2 (pos 0)))) → d ≡ z_of (to_z w8 (of_z w8 (slice_index_or xs 3 (pos 0)))) →
-    e ≡ z_of (to_z w8 (of_z w8 (slice_index_or xs 4 (pos 0)))) → f ≡ z_of (to_z w8 (of_z w8 (slice_index_or xs 5 (pos 0)))) → g ≡ z_of (to_z w8 (of_z w8 (slice_index_or xs 6 (pos 0)))) → h ≡ z_of (to_z w8 (of_z w8 (slice_index_or xs 7 (pos 0)))) →
-    eight_symbols (4096 * (a * 512 + b * 64 + c * 8 + d) + (e * 512 + f * 64 + g * 8 + h)) ≡ xs
-gathered_is xs a b c d e f g h long levels la lb lc ld le lf lg lh qa qb qc qd qe qf qg qh =
-    let pa = number_read xs 0 a levels (omega arith) qa in
-    let pb = number_read xs 1 b levels (omega arith) qb in
-    let pc = number_read xs 2 c levels (omega arith) qc in
-    let pd = number_read xs 3 d levels (omega arith) qd in
-    let pe = number_read xs 4 e levels (omega arith) qe in
-    let pf = number_read xs 5 f levels (omega arith) qf in
-    let pg = number_read xs 6 g levels (omega arith) qg in
-    let ph = number_read xs 7 h levels (omega arith) qh in
-    eight_of a b c d e f g h la lb lc ld le lf lg lh ∙
-    same_eight pa pb pc pd pe pf pg ph ∙
+-- the numbers of eight levels in three bytes
+pub pack_is : (xs : List ℤ) (ns : List ℕ) → length xs ≡ 8 → all_levels xs ≡ true → ((k : ℕ) → k < 8 → get_or ns k 0 ≡ z_of (get_or xs k (pos 0))) →
+    unpacked ((get_or ns 0 0 * 32 + get_or ns 1 0 * 4 + get_or ns 2 0 / 2) ∷ (get_or ns 2 0 % 2 * 128 + get_or ns 3 0 * 16 + get_or ns 4 0 * 2 + get_or ns 5 0 / 4) ∷ (get_or ns 5 0 % 4 * 64 + get_or ns 6 0 * 8 + get_or ns 7 0) ∷ []) ≡ xs
+pack_is xs ns long levels each =
+    let n = λ (k : ℕ). get_or ns k 0 in
+    let small : (k : ℕ) → k < 8 → n k < 8 = λ k h. subst (λ z. z < 8) (sym (each k h)) (number_small (get_or xs k (pos 0)) (levels_at xs k levels (omega (arith, long)))) in
+    let back : (k : ℕ) → k < 8 → level_from (n k) ≡ get_or xs k (pos 0) = λ k h. ap level_from (each k h) ∙ level_back (get_or xs k (pos 0)) (levels_at xs k levels (omega (arith, long))) in
+    let bits : three_bytes (n 0 * 32 + n 1 * 4 + n 2 / 2) (n 2 % 2 * 128 + n 3 * 16 + n 4 * 2 + n 5 / 4) (n 5 % 4 * 64 + n 6 * 8 + n 7) ≡ 4096 * (n 0 * 512 + n 1 * 64 + n 2 * 8 + n 3) + (n 4 * 512 + n 5 * 64 + n 6 * 8 + n 7) = omega arith in
+    ap eight_symbols bits ∙
+    eight_of (n 0) (n 1) (n 2) (n 3) (n 4) (n 5) (n 6) (n 7) (small 0 (omega arith)) (small 1 (omega arith)) (small 2 (omega arith)) (small 3 (omega arith)) (small 4 (omega arith)) (small 5 (omega arith)) (small 6 (omega arith)) (small 7 (omega arith)) ∙
+    same_eight (back 0 (omega arith)) (back 1 (omega arith)) (back 2 (omega arith)) (back 3 (omega arith)) (back 4 (omega arith)) (back 5 (omega arith)) (back 6 (omega arith)) (back 7 (omega arith)) ∙
     sym (eight_list xs long)
 
--- eight elements written one after the other
-eight_set : (xs : List ℤ) (a b c d e f g h : ℤ) → length xs ≡ 8 → slice_set (slice_set (slice_set (slice_set (slice_set (slice_set (slice_set (slice_set xs 0 a) 1 b) 2 c) 3 d) 4 e) 5 f) 6 g) 7 h ≡ a ∷ b ∷ c ∷ d ∷ e ∷ f ∷ g ∷ h ∷ []
-eight_set xs a b c d e f g h long = ap (λ ys. slice_set (slice_set (slice_set (slice_set (slice_set (slice_set (slice_set (slice_set ys 0 a) 1 b) 2 c) 3 d) 4 e) 5 f) 6 g) 7 h) (eight_list xs long)
+-- a list of three bytes
+three_list : (xs : List ℕ) → length xs ≡ 3 → xs ≡ get_or xs 0 0 ∷ get_or xs 1 0 ∷ get_or xs 2 0 ∷ []
+three_list [] h = absurd (omega arith)
+three_list (a ∷ []) h = absurd (omega arith)
+three_list (a ∷ b ∷ []) h = absurd (omega arith)
+three_list (a ∷ b ∷ c ∷ []) h = refl
+three_list (a ∷ b ∷ c ∷ x ∷ xs) h = absurd (omega arith)
 
--- the eight symbols of 24 bits, written one after the other
-pub spread_is : (xs : List ℤ) (n : ℕ) (a b c d e f g h : ℤ) → length xs ≡ 8 →
-    a ≡ level_from (n / 2097152 % 8) → b ≡ level_from (n / 262144 % 8) → c ≡ level_from (n / 32768 % 8) → d ≡ level_from (n / 4096 % 8) →
-    e ≡ level_from (n / 512 % 8) → f ≡ level_from (n / 64 % 8) → g ≡ level_from (n / 8 % 8) → h ≡ level_from (n % 8) →
-    slice_set (slice_set (slice_set (slice_set (slice_set (slice_set (slice_set (slice_set xs 0 (to_z w8 (of_z w8 a))) 1 (to_z w8 (of_z w8 b))) 2 (to_z w8 (of_z w8 c))) 3 (to_z w8 (of_z w8 d))) 4 (to_z w8 (of_z w8 e))) 5 (to_z w8 (of_z w8 f))) 6 (to_z w8 (of_z w8 g))) 7 (to_z w8 (of_z w8 h)) ≡ eight_symbols n
-spread_is xs n a b c d e f g h long qa qb qc qd qe qf qg qh =
-    eight_set xs (to_z w8 (of_z w8 a)) (to_z w8 (of_z w8 b)) (to_z w8 (of_z w8 c)) (to_z w8 (of_z w8 d)) (to_z w8 (of_z w8 e)) (to_z w8 (of_z w8 f)) (to_z w8 (of_z w8 g)) (to_z w8 (of_z w8 h)) long ∙
-    same_eight (written a (n / 2097152) qa) (written b (n / 262144) qb) (written c (n / 32768) qc) (written d (n / 4096) qd) (written e (n / 512) qe) (written f (n / 64) qf) (written g (n / 8) qg) (written h n qh)
+-- the symbols of three bytes, one by one
+pub unpack_is : (xs : List ℤ) (bytes : List ℕ) → length xs ≡ 8 → length bytes ≡ 3 →
+    ((k : ℕ) (d : ℤ) → k < 8 → get_or xs k d ≡ level_from (three_bytes (get_or bytes 0 0) (get_or bytes 1 0) (get_or bytes 2 0) / 2 ^ (21 - 3 * k) % 8)) → xs ≡ unpacked bytes
+unpack_is xs bytes long three each =
+    let n = three_bytes (get_or bytes 0 0) (get_or bytes 1 0) (get_or bytes 2 0) in
+    let at : (k : ℕ) → k < 8 → get_or xs k (pos 0) ≡ level_from (n / 2 ^ (21 - 3 * k) % 8) = λ k h. each k (pos 0) h in
+    let last : n / 1 ≡ n = omega arith in
+    let symbols : xs ≡ eight_symbols n = eight_list xs long ∙ same_eight (at 0 (omega arith)) (at 1 (omega arith)) (at 2 (omega arith)) (at 3 (omega arith)) (at 4 (omega arith)) (at 5 (omega arith)) (at 6 (omega arith)) (at 7 (omega arith) ∙ ap (λ m. level_from (m % 8)) last) in
+    symbols ∙ ap unpacked (sym (three_list bytes three))
 
 -- eight symbols for each three bytes
 pub unpacked_length : (n : ℕ) (bytes : List ℕ) → length bytes ≡ 3 * n → length (unpacked bytes) ≡ 8 * n
