@@ -9,7 +9,6 @@ ghost use Rattle.slot_line.specs.Slot.{fits_slots};
 ghost use Rattle.packed_line.specs.Packed.{PackedLine, packed_state, packed_fits};
 
 use line::Line;
-use line::levels::Levels;
 use packing::{pack, unpack};
 use slot_line::{Layout, SlotLine};
 use std::array;
@@ -31,9 +30,8 @@ impl Layout for Packed {
 
     ghost segment_in = { unpacked };
 
-    fn store(segment: Levels<'_>, slot: &mut [u8]) {
-        let symbols = segment.symbols;
-        let (groups, _) = symbols.as_chunks::<8>();
+    fn store(segment: &[i8; 832], slot: &mut [u8]) {
+        let (groups, _) = segment.as_chunks::<8>();
         let bytes: [[u8; 3]; 104] = array::from_fn(
             |k: usize| -> [u8; 3]
                 requires inside { k < length groups.now }
@@ -71,6 +69,7 @@ pub fn laws_stand()
 #[cfg(test)]
 mod tests {
     use super::*;
+    use line::levels::Levels;
     use std::test::Fail;
 
     #[test]
@@ -87,7 +86,7 @@ mod tests {
             return Err(Fail::new("no levels"));
         };
         let mut slot = [0u8; 312];
-        Packed::store(levels, &mut slot);
+        Packed::store(levels.symbols, &mut slot);
         let mut out = [0i8; 832];
         assert_eq!(rt; slot.get(0), Some(&6));
         assert_eq!(rt; line.put(&segment), Ok(()));

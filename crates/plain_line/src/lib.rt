@@ -6,7 +6,6 @@ ghost use Rattle.slot_line.specs.Slot.{fits_slots};
 ghost use Rattle.plain_line.specs.Plain.{PlainLine, plain_state, plain_fits};
 
 use line::Line;
-use line::levels::Levels;
 use slot_line::{Layout, SlotLine};
 
 // Slots of 832 bytes. Symbol j of a segment is byte j of its slot.
@@ -24,9 +23,8 @@ impl Layout for Plain {
 
     ghost segment_in = { λ cells. cells };
 
-    fn store(segment: Levels<'_>, slot: &mut [i8]) {
-        let symbols = segment.symbols;
-        slot.copy_from_slice(symbols);
+    fn store(segment: &[i8; 832], slot: &mut [i8]) {
+        slot.copy_from_slice(segment);
     }
 
     fn load(slot: &[i8], out: &mut [i8; 832]) {

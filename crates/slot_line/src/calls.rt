@@ -1,5 +1,6 @@
 // The calls of a line over slots.
-ghost use Rattle.std.specs.Prelude.{◌≡◌, ℕ, ◌+◌, ◌*◌, ◌/◌, ◌≤◌, length, is_ok, vec_len, Ok, Err, MatchResult, ◌≢◌};
+ghost use Rattle.std.specs.Prelude.{◌≡◌, ℕ, ◌+◌, ◌*◌, ◌/◌, ◌≤◌, true, length, is_ok, vec_len, Ok, Err, MatchResult, ◌≢◌};
+ghost use Rattle.level.specs.Level.{all_levels};
 ghost use Rattle.line.specs.Bottom.{new_state};
 ghost use Rattle.line.specs.Line.{here, put_answer, take_answer};
 ghost use Rattle.line.specs.State.{Arrived, Taken};
@@ -14,9 +15,10 @@ use line::ring::Ring;
 use line::{Line, LineFault, LineRefusal, NoLine};
 
 // Writes a segment into a slot of a memory.
-fn store_at<S: Layout>(memory: &mut [S::Cell], slot: usize, segment: Levels<'_>)
-    requires { S.CELLS * slot + S.CELLS ≤ length memory.old }
-    ensures here { held S.CELLS S.segment_in memory.new slot ≡ segment.entry.symbols.now }
+fn store_at<S: Layout>(memory: &mut [S::Cell], slot: usize, segment: &[i8; 832])
+    requires inside { S.CELLS * slot + S.CELLS ≤ length memory.old }
+    requires levels { all_levels segment.now ≡ true }
+    ensures here { held S.CELLS S.segment_in memory.new slot ≡ segment.now }
     ensures others { (i : ℕ) → (i ≢ slot) → held S.CELLS S.segment_in memory.new i ≡ held S.CELLS S.segment_in memory.old i }
 {
     let from = S::CELLS * slot;
@@ -55,7 +57,7 @@ impl<S: Layout> SlotLine<S> {
     {
         let levels = Levels::of(segment)?;
         let slot = self.ring.put()?;
-        store_at::<S>(&mut self.memory, slot, levels);
+        store_at::<S>(&mut self.memory, slot, levels.symbols);
         Ok(())
     }
 

@@ -2,11 +2,11 @@
 #![tactic(auto)]
 
 ghost use Rattle.std.specs.Prelude.{◌≡◌, ℕ, ◌*◌, ◌≤◌, List, ℤ, true, map, length, vec_len};
+ghost use Rattle.level.specs.Level.{all_levels};
 ghost use Rattle.line.specs.Segment.{all_segments};
 ghost use Rattle.line.specs.Ring.{slots};
 ghost use Rattle.slot_line.specs.Slot.{held};
 
-use line::levels::Levels;
 use line::ring::Ring;
 
 pub mod calls;
@@ -24,9 +24,11 @@ pub trait Layout {
     ghost segment_in: { List Self.Cell → List ℤ };
 
     // Writes a segment into a slot.
-    fn store(segment: Levels<'_>, slot: &mut [Self::Cell])
-        requires { length slot.old ≡ CELLS }
-        ensures { segment_in slot.new ≡ segment.entry.symbols.now };
+    // By a plain reference: behind a field of `Levels` the compiler does not know the two memories apart.
+    fn store(segment: &[i8; 832], slot: &mut [Self::Cell])
+        requires levels { all_levels segment.now ≡ true }
+        requires whole { length slot.old ≡ CELLS }
+        ensures { segment_in slot.new ≡ segment.now };
 
     // Reads the segment in a slot.
     fn load(slot: &[Self::Cell], out: &mut [i8; 832])
