@@ -1,13 +1,19 @@
 -- Laws of bursts and of what they alter.
-use Rattle.std.proofs.Common.{◌≡◌, ℕ, zero, suc, ◌+◌, ◌<◌, ◌≤◌, Bool, true, false, cond, ◌≢◌, List, [], ◌∷◌, length, get_or, drop, set, ℤ, pos, neg_ℤ, Some, None, Ok, Err, Result, sym, refl, ap, ◌∙◌, subst, ⊎_elim, arith, get_or-set_other, get_or-set_same, w8, to_z, of_z, MatchResult}
+use Rattle.std.proofs.Common.{◌≡◌, ℕ, zero, suc, ◌+◌, ◌<◌, ◌≤◌, Bool, true, false, cond, ◌||◌, ◌≢◌, List, [], ◌∷◌, length, get_or, drop, set, ℤ, pos, neg_ℤ, Some, None, Ok, Err, Result, sym, refl, ap, ◌∙◌, subst, ⊎_elim, arith, get_or-set_other, get_or-set_same, w8, to_z, of_z, MatchResult}
+use Rattle.std.specs.List.{All, list_any}
 use Rattle.std.proofs.lemmas.Int.{to_z-of_z}
+use Rattle.std.proofs.lemmas.List.Elements.{All-head, All-tail}
 use Rattle.std.proofs.lemmas.Bool.{cases_eq}
 use Rattle.std.proofs.lemmas.List.{at_drop_more, at_drop_all, ext_get_or}
 use Rattle.level.specs.Level.{is_level, all_levels}
 use Rattle.level.proofs.Levels.{levels_at, level_fits, level_negated}
 use Rattle.line.specs.declared.LineRefusal.{LineRefusal}
 use Rattle.line.specs.State.{State, Arrived}
+use Rattle.std.specs.Result.{IsErrAnd}
 use Rattle.line.specs.Line.{put_answer}
+use Rattle.line.specs.Layer.{layered}
+use Rattle.line.proofs.Layers.{layered_arrived}
+use Rattle.bursts.specs.Layer.{first_place}
 use Rattle.bursts.specs.declared.Burst.{Burst}
 use Rattle.bursts.specs.Bursts.{in_part, in_burst, in_bursts, altered, is_bad_after, first_bad_after}
 
@@ -20,6 +26,16 @@ bursts_next bs i p h = at_drop_more (λ xs. in_bursts xs p) bs i none h
 
 pub bursts_end : (bs : List Burst) (i p : ℕ) → length bs ≤ i → in_bursts (drop i bs) p ≡ false
 bursts_end bs i p h = at_drop_all (λ xs. in_bursts xs p) bs i h
+
+-- whether some burst covers a place
+pub covers : (bs : List Burst) (p : ℕ) → list_any (λ b. in_burst b p) bs ≡ in_bursts bs p
+covers [] p = refl
+covers (b ∷ bs) p = let e = covers bs p in elim (in_burst b p) as (λ t. (t || list_any (λ c. in_burst c p) bs) ≡ cond t true (in_bursts bs p)) [ true ↦ refl | false ↦ e ]
+
+-- bursts that each leave a place out
+pub leave_out : (bs : List Burst) (p : ℕ) → All (λ b. in_burst b p ≡ false) bs → in_bursts bs p ≡ false
+leave_out [] p a = refl
+leave_out (b ∷ bs) p a = let h = All-head (λ c. in_burst c p ≡ false) b bs a in let e = leave_out bs p (All-tail (λ c. in_burst c p ≡ false) b bs a) in ap (λ t. cond t true (in_bursts bs p)) h ∙ e
 
 -- one burst of the check of a list, and its end
 pub bad_next : (bs : List Burst) (i e : ℕ) → i < length bs → first_bad_after e i (drop i bs) ≡ cond (is_bad_after e (get_or bs i none)) (Some i) (first_bad_after ((get_or bs i none).offset + (get_or bs i none).length) (i + 1) (drop (i + 1) bs))
@@ -105,6 +121,16 @@ altered_answer s bs p f = let a = altered_length bs p f in let b = altered_level
 -- an accepted segment is long enough
 pub put_long : (s : State) (f : List ℤ) → Ok tt ≡ put_answer s f → length f ≡ 832
 put_long s f e = grind arith
+
+-- what the lower line's answer to an altered segment is to the layer
+pub layer_after : (s t : State) (bs : List Burst) (f : List ℤ) (r m : Result (Unit {0}) LineRefusal) (Q : LineRefusal → LineRefusal → Type 0) → MatchResult r (λ x. m ≡ Ok x) (λ e. IsErrAnd m (Q e)) → r ≡ put_answer s f →
+    MatchResult r (λ _. Arrived s (altered bs (first_place s) f) t) (λ _. t ≡ s) → MatchResult m (λ _. Arrived (layered (in_bursts bs) s) f (layered (in_bursts bs) t)) (λ _. layered (in_bursts bs) t ≡ layered (in_bursts bs) s)
+layer_after s t bs f (Ok x) m Q same e a =
+    let long = put_long s f e in
+    let b = layered_arrived (in_bursts bs) s t f (altered bs (first_place s) f) (λ i h dark. altered_same bs (first_place s) f i (omega arith) dark) a in
+    subst (λ k. MatchResult k (λ _. Arrived (layered (in_bursts bs) s) f (layered (in_bursts bs) t)) (λ _. layered (in_bursts bs) t ≡ layered (in_bursts bs) s)) (sym same) b
+layer_after s t bs f (Err x) (Ok y) Q same e a = absurd same
+layer_after s t bs f (Err x) (Err y) Q same e a = ap (layered (in_bursts bs)) a
 
 -- a put of a segment that the bursts do not alter, or that the lower line refuses
 pub untouched : (s t : State) (bs : List Burst) (p : ℕ) (f : List ℤ) (r : Result (Unit {0}) LineRefusal) → r ≡ put_answer s f → (length f ≡ 832 → all_levels f ≡ true → altered bs p f ≡ f) → MatchResult r (λ _. Arrived s f t) (λ _. t ≡ s) → MatchResult r (λ _. Arrived s (altered bs p f) t) (λ _. t ≡ s)

@@ -94,12 +94,7 @@ fn covered(burst: Burst, place: u64) -> bool
 fn within(bursts: &[Burst], place: u64) -> bool
     ensures { result ≡ in_bursts bursts.now place }
 {
-    for burst in bursts {
-        if covered(*burst, place) {
-            return true;
-        }
-    }
-    false
+    bursts.iter().any(|burst| covered(*burst, place))
 }
 
 // The part of the segment whose first symbol has the place `first` that lies in a burst.
@@ -126,16 +121,18 @@ fn part_of(burst: Burst, first: u64) -> Part
 }
 
 // Whether a burst meets the segment whose first symbol has the place `first`.
+fn meets(burst: Burst, first: u64) -> bool
+    ensures { result ≡ false → (i : ℕ) → i < 832 → in_burst burst (first + i) ≡ false }
+{
+    let part = part_of(burst, first);
+    part.from < part.to
+}
+
+// Whether one of the bursts meets that segment.
 fn any_meets(bursts: &[Burst], first: u64) -> bool
     ensures { result ≡ false → (i : ℕ) → i < 832 → in_bursts bursts.now (first + i) ≡ false }
 {
-    for burst in bursts {
-        let part = part_of(*burst, first);
-        if part.from < part.to {
-            return true;
-        }
-    }
-    false
+    bursts.iter().any(|burst| meets(*burst, first))
 }
 
 // The opposite level.
@@ -225,17 +222,12 @@ impl<L: Line> Line for BurstLayer<L> {
         ensures after { MatchResult result (λ _. Arrived (layer_state L.Line.state self.old) segment.now (layer_state L.Line.state self.new)) (λ _. layer_state L.Line.state self.new ≡ layer_state L.Line.state self.old) }
         ensures lower { MatchResult result (λ _. Arrived (L.Line.state self.old.lower) (altered self.old.list.items (first_place (L.Line.state self.old.lower)) segment.now) (L.Line.state self.new.lower)) (λ _. L.Line.state self.new.lower ≡ L.Line.state self.old.lower) }
     {
-        match self.put_altered(segment) {
-            Ok(()) => Ok(()),
-            Err(refusal) => Err(refusal.under_a_layer()),
-        }
+        self.put_altered(segment)
+            .map_err(LineRefusal::under_a_layer)
     }
 
     fn take(&mut self, out: &mut [i8]) -> Result<(), LineRefusal> {
-        match self.lower.take(out) {
-            Ok(()) => Ok(()),
-            Err(below) => Err(below.under_a_layer()),
-        }
+        self.lower.take(out).map_err(LineRefusal::under_a_layer)
     }
 
     fn waiting(&self) -> usize {

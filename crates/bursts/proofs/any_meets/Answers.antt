@@ -1,16 +1,11 @@
-use Rattle.std.proofs.Common.{◌+◌, true, cond, drop, sym, ap, ◌∙◌, arith}
-use Rattle.bursts.specs.Bursts.{in_bursts}
-use Rattle.bursts.proofs.Alters.{bursts_next, bursts_end, empty_part}
+use Rattle.std.proofs.Common.{◌≡◌, ℕ, ◌+◌, ◌<◌, false, rules, tests, arith}
+use Rattle.std.proofs.lemmas.Iterator.{cases_from_any, YieldsList-from_slice}
+use Rattle.bursts.specs.Bursts.{in_burst}
+use Rattle.bursts.proofs.Alters.{leave_out}
 use Rattle.bursts.proofs.any_meets.Goals as goal
 
-pub loop-burst-preserved : goal.loop-burst-preserved
-loop-burst-preserved c =
-    λ i h. let bs = c.args.bursts.now in
-    let n = c.loop-burst.burst-index in
-    let q = c.args.first + i in
-    let x = c.part_of-part.ensures.exact i h in
-    let z = empty_part c.part_of-part.result.from c.part_of-part.result.to i (omega arith) in
-    c.loop-burst.invariant i h ∙ bursts_next bs n q (omega arith) ∙ ap (λ b. cond b true (in_bursts (drop (n + 1) bs) q)) (sym x ∙ z)
-
 pub returns : goal.returns
-returns c = λ no i h. c.loop-burst.invariant i h ∙ bursts_end c.args.bursts.now c.loop-burst.burst-index (c.args.first + i) (omega arith)
+returns c =
+    let bs = c.args.bursts.now in
+    let e = cases_from_any _ _ _ (λ b. Unit {0}) (λ b. (i : ℕ) → i < 832 → in_burst b (c.args.first + i) ≡ false) c.any.ensures.ran (YieldsList-from_slice bs cc) (λ x q k. tt) (λ x q k. search (rules, tests)) in
+    λ no i h. let a = rw no at e in leave_out bs (c.args.first + i) (λ k d l. a k d (omega arith) l i h)

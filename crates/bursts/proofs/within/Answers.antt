@@ -1,18 +1,11 @@
-use Rattle.std.proofs.Common.{sym, ◌∙◌, arith}
-use Rattle.bursts.proofs.Alters.{bursts_next, bursts_end}
+use Rattle.std.proofs.Common.{◌∙◌, rules, tests}
+use Rattle.std.proofs.lemmas.Iterator.{YieldsList-from_slice}
+use Rattle.std.proofs.lemmas.Iterator.Search.{any_from_yields_List}
+use Rattle.bursts.specs.Bursts.{in_burst}
+use Rattle.bursts.proofs.Alters.{covers}
 use Rattle.bursts.proofs.within.Goals as goal
 
-pub returns-then-covered : goal.returns-then-covered
-returns-then-covered c =
-    let e = bursts_next c.args.bursts.now c.loop-burst.burst-index c.args.place (omega arith) in
-    let f = c.if-covered.ensures in
-    let i = c.loop-burst.invariant in grind arith
-
-pub loop-burst-preserved : goal.loop-burst-preserved
-loop-burst-preserved c =
-    let e = bursts_next c.args.bursts.now c.loop-burst.burst-index c.args.place (omega arith) in
-    let f = c.if-covered.ensures in
-    let i = c.loop-burst.invariant in grind arith
-
 pub returns : goal.returns
-returns c = sym (c.loop-burst.invariant ∙ bursts_end c.args.bursts.now c.loop-burst.burst-index c.args.place (omega arith))
+returns c =
+    let bs = c.args.bursts.now in
+    any_from_yields_List (λ b. in_burst b c.args.place) _ _ _ c.any.ensures.ran (YieldsList-from_slice bs cc) (λ x b q k. search (rules, tests)) ∙ covers bs c.args.place

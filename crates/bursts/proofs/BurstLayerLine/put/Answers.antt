@@ -1,26 +1,17 @@
-use Rattle.std.proofs.Common.{List, vec_items, sym, ap, subst, arith}
+use Rattle.std.proofs.Common.{◌≡◌, List, vec_items, sym, ap, subst, MatchResult}
 use Rattle.line.specs.State.{Arrived}
 use Rattle.line.specs.Layer.{layered}
-use Rattle.line.proofs.Layers.{layered_put_ok, layered_arrived}
 use Rattle.bursts.specs.declared.Burst.{Burst}
-use Rattle.bursts.specs.Bursts.{in_bursts, altered}
-use Rattle.bursts.specs.Layer.{first_place}
-use Rattle.bursts.proofs.Alters.{altered_same, put_long}
+use Rattle.bursts.specs.Bursts.{in_bursts}
+use Rattle.bursts.proofs.Alters.{layer_after}
 use Rattle.bursts.proofs.BurstLayerLine.put.Goals as goal
 
-pub returns-in-Ok : goal.returns-in-Ok
-returns-in-Ok g c =
+pub returns-clause-after : goal.returns-clause-after
+returns-clause-after g c =
     let state = g.L.Line.state in
     let s = state c.args.self.now.lower in
     let t = state c.put_altered.new.self.lower in
     let bs = vec_items c.args.self.now.list in
-    let f = c.args.segment.now in
-    let p = c.in-Ok.ensures in
-    let long = put_long s f p.answer in
-    record {
-      answer = layered_put_ok (in_bursts bs) s f p.answer;
-      after =
-          subst (λ (l : List Burst). Arrived (layered (in_bursts bs) s) f (layered (in_bursts l) t)) (ap vec_items (sym p.list))
-          (layered_arrived (in_bursts bs) s t f (altered bs (first_place s) f) (λ i h dark. altered_same bs (first_place s) f i (omega arith) dark) p.lower);
-      lower = p.lower;
-    }
+    let p = c.put_altered.ensures in
+    subst (λ (l : List Burst). MatchResult c.map_err.result (λ _. Arrived (layered (in_bursts bs) s) c.args.segment.now (layered (in_bursts l) t)) (λ _. layered (in_bursts l) t ≡ layered (in_bursts bs) s)) (ap vec_items (sym p.list))
+    (layer_after s t bs c.args.segment.now c.put_altered.result c.map_err.result _ c.map_err.ensures.cases p.answer p.lower)
