@@ -1,10 +1,13 @@
 -- Laws of bursts and of what they alter.
-use Rattle.std.proofs.Common.{◌≡◌, ℕ, zero, suc, ◌+◌, ◌<◌, ◌≤◌, Bool, true, false, cond, ◌||◌, ◌≢◌, List, [], ◌∷◌, length, get_or, drop, set, ℤ, pos, neg_ℤ, Some, None, Ok, Err, Result, sym, refl, ap, ◌∙◌, subst, ⊎_elim, arith, get_or-set_other, get_or-set_same, w8, to_z, of_z, MatchResult}
-use Rattle.std.specs.List.{All, list_any}
+use Rattle.std.proofs.Common.{◌≡◌, ℕ, zero, suc, ◌+◌, ◌-◌, ◌<◌, ◌≤◌, Bool, true, false, cond, ◌||◌, List, [], ◌∷◌, ◌++◌, length, get_or, take, drop, map, set, ℤ, pos, neg_ℤ, Some, None, Ok, Err, Result, sym, refl, ap, ◌∙◌, subst, ⊎_elim, arith, w8, to_z, of_z, MatchResult}
+use borrow.Rule.Slice.PartMut.{put_mid}
+use Rattle.std.specs.List.{All, between, list_any}
 use Rattle.std.proofs.lemmas.Int.{to_z-of_z}
 use Rattle.std.proofs.lemmas.List.Elements.{All-head, All-tail}
-use Rattle.std.proofs.lemmas.Bool.{cases_eq}
-use Rattle.std.proofs.lemmas.List.{at_drop_more, at_drop_all, ext_get_or}
+use Rattle.std.proofs.lemmas.Bool.{cases_lt}
+use Rattle.std.proofs.Math.ListN.{get_or-map}
+use Rattle.std.proofs.Math.Seq.{get_or-append_right}
+use Rattle.std.proofs.lemmas.List.{at_drop_more, at_drop_all, ext_get_or, get_or_append_left, get_or-take, get_or-drop, length-map, length-take-le, length-drop}
 use Rattle.level.specs.Level.{is_level, all_levels}
 use Rattle.level.proofs.Levels.{levels_at, level_fits, level_negated}
 use Rattle.line.specs.declared.LineRefusal.{LineRefusal}
@@ -44,16 +47,22 @@ bad_next bs i e h = at_drop_more (first_bad_after e i) bs i none h
 pub bad_end : (bs : List Burst) (i e : ℕ) → length bs ≤ i → first_bad_after e i (drop i bs) ≡ None
 bad_end bs i e h = at_drop_all (first_bad_after e i) bs i h
 
--- an empty part holds nothing
-pub empty_part : (from to i : ℕ) → to ≤ from → in_part from to i ≡ false
-empty_part from to i h = grind arith
+-- symbols of which the first i are negated: the next one, one more, and all
+pub next_level : (xs : List ℤ) (i : ℕ) → i < length xs → get_or (map neg_ℤ (take i xs) ++ drop i xs) i (pos 0) ≡ get_or xs i (pos 0)
+next_level [] i h = absurd (omega arith)
+next_level (x ∷ xs) zero h = refl
+next_level (x ∷ xs) (suc i) h = next_level xs i (omega arith)
 
--- a part grows by one at its end
-pub part_more : (from n k : ℕ) (x y : ℤ) → from ≤ n → (k ≡ n → ⊥) → cond (in_part from (n + 1) k) x y ≡ cond (in_part from n k) x y
-part_more from n k x y h ne = ap (λ b. cond b x y) (grind (arith, ne))
+pub one_more : (xs : List ℤ) (i : ℕ) (v : ℤ) → i < length xs → v ≡ neg_ℤ (get_or xs i (pos 0)) → set (map neg_ℤ (take i xs) ++ drop i xs) i v ≡ map neg_ℤ (take (suc i) xs) ++ drop (suc i) xs
+one_more [] i v h e = absurd (omega arith)
+one_more (x ∷ xs) zero v h e = ap (λ y. y ∷ xs) e
+one_more (x ∷ xs) (suc i) v h e = ap (λ ys. neg_ℤ x ∷ ys) (one_more xs i v (omega arith) e)
 
-pub part_here : (from n : ℕ) (x y : ℤ) → from ≤ n → cond (in_part from (n + 1) n) x y ≡ x
-part_here from n x y h = grind arith
+pub all_negated : (xs : List ℤ) (n : ℕ) → n ≡ length xs → map neg_ℤ (take n xs) ++ drop n xs ≡ map neg_ℤ xs
+all_negated [] zero h = refl
+all_negated [] (suc n) h = refl
+all_negated (x ∷ xs) zero h = absurd (omega arith)
+all_negated (x ∷ xs) (suc n) h = ap (λ ys. neg_ℤ x ∷ ys) (all_negated xs n (omega arith))
 
 -- the opposite of one of several levels, as it is read and written
 pub opposite_read : (xs : List ℤ) (i : ℕ) (r : ℤ) → all_levels xs ≡ true → i < length xs → r ≡ neg_ℤ (to_z w8 (of_z w8 (get_or xs i (pos 0)))) → to_z w8 (of_z w8 r) ≡ neg_ℤ (get_or xs i (pos 0))
@@ -63,17 +72,32 @@ opposite_read xs i r e h q =
     let is : r ≡ neg_ℤ x = q ∙ ap neg_ℤ (to_z-of_z w8 x (level_fits x l)) in
     to_z-of_z w8 r (level_fits r (ap is_level is ∙ level_negated x ∙ l)) ∙ is
 
--- one symbol of a part more
-pub negate_more : (out segment start : List ℤ) (from i : ℕ) (v : ℤ) → from ≤ i → i < length out → v ≡ neg_ℤ (get_or segment i (pos 0)) →
-    ((k : ℕ) → k < 832 → get_or out k (pos 0) ≡ cond (in_part from i k) (neg_ℤ (get_or segment k (pos 0))) (get_or start k (pos 0))) →
-    (k : ℕ) → k < 832 → get_or (set out i v) k (pos 0) ≡ cond (in_part from (i + 1) k) (neg_ℤ (get_or segment k (pos 0))) (get_or start k (pos 0))
-negate_more out segment start from i v low fits e inv k h =
+-- a part of which the symbols were negated
+pub part_negated : (xs ys : List ℤ) (start end k : ℕ) → length ys ≡ length xs → start ≤ end → end ≤ length xs → k < length xs →
+    get_or (put_mid start (end - start) ys (map neg_ℤ (between start end xs))) k (pos 0) ≡ cond (in_part start end k) (neg_ℤ (get_or xs k (pos 0))) (get_or ys k (pos 0))
+part_negated xs ys start end k same a b h =
+    let front = take start ys in
+    let part = map neg_ℤ (take (end - start) (drop start xs)) in
+    let tail = drop (end - start) (drop start ys) in
+    let lf : length front ≡ start = length-take-le start ys (omega arith) in
+    let lp : length part ≡ end - start = length-map (take (end - start) (drop start xs)) neg_ℤ ∙ length-take-le (end - start) (drop start xs) (let d = length-drop start xs in omega arith) in
+    let at = k - length front in
+    let x = get_or xs k (pos 0) in
+    let y = get_or ys k (pos 0) in
+    let by : (t : Bool) → in_part start end k ≡ t → cond t (neg_ℤ x) y ≡ cond (in_part start end k) (neg_ℤ x) y = λ t e. ap (λ b. cond b (neg_ℤ x) y) (sym e) in
     ⊎_elim
-    (λ (same : k ≡ i).
-    ap (λ j. get_or (set out i v) j (pos 0)) same ∙ get_or-set_same out i v (pos 0) fits ∙ e ∙ sym (part_here from i (neg_ℤ (get_or segment i (pos 0))) (get_or start i (pos 0)) low) ∙
-    ap (λ j. cond (in_part from (i + 1) j) (neg_ℤ (get_or segment j (pos 0))) (get_or start j (pos 0))) (sym same))
-    (λ (ne : k ≢ i). get_or-set_other out i k v (pos 0) ne ∙ inv k h ∙ sym (part_more from i k (neg_ℤ (get_or segment k (pos 0))) (get_or start k (pos 0)) low ne))
-    (cases_eq k i)
+    (λ (low : k < start). get_or_append_left front (part ++ tail) (pos 0) k (omega arith) ∙ get_or-take start ys k (pos 0) low ∙ by false (grind arith))
+    (λ (l : start ≤ k).
+    get_or-append_right front (part ++ tail) k (pos 0) (omega arith) ∙
+    ⊎_elim
+    (λ (u : k < end).
+    get_or_append_left part tail (pos 0) at (omega arith) ∙ get_or-map neg_ℤ (take (end - start) (drop start xs)) at (pos 0) ∙
+    ap neg_ℤ (get_or-take (end - start) (drop start xs) at (pos 0) (omega arith) ∙ get_or-drop start xs at (pos 0) ∙ ap (λ j. get_or xs j (pos 0)) (let e : start + at ≡ k = omega arith in e)) ∙ by true (grind arith))
+    (λ (u : end ≤ k).
+    get_or-append_right part tail at (pos 0) (omega arith) ∙ get_or-drop (end - start) (drop start ys) (at - length part) (pos 0) ∙ get_or-drop start ys (end - start + (at - length part)) (pos 0) ∙
+    ap (λ j. get_or ys j (pos 0)) (let e : start + (end - start + (at - length part)) ≡ k = omega arith in e) ∙ by false (grind arith))
+    (cases_lt k end))
+    (cases_lt k start)
 
 -- altered symbols are as many
 pub altered_length : (bs : List Burst) (p : ℕ) (f : List ℤ) → length (altered bs p f) ≡ length f

@@ -1,7 +1,7 @@
 // A layer over any line that negates the symbols in its bursts on their way down.
 #![tactic(auto)]
 
-ghost use Rattle.std.specs.Prelude.{◌≡◌, ℕ, ◌+◌, ◌*◌, ◌<◌, ◌≤◌, true, false, length, pos, neg_ℤ, if◌then◌else◌, Some, None, MatchResult, slice_index_or};
+ghost use Rattle.std.specs.Prelude.{◌≡◌, ℕ, ◌+◌, ◌*◌, ◌<◌, ◌≤◌, true, false, map, length, neg_ℤ, Some, None, MatchResult};
 ghost use Rattle.level.specs.Level.{is_level, all_levels};
 ghost use Rattle.line.specs.State.{Arrived};
 ghost use Rattle.line.specs.Line.{put_answer};
@@ -9,8 +9,9 @@ ghost use Rattle.bursts.specs.Bursts.{in_burst, in_bursts, in_part, altered, is_
 ghost use Rattle.bursts.specs.Layer.{layer_state, first_place};
 ghost use Rattle.std.proofs.Common.{rules};
 
-use level::are_levels;
+use line::levels::Levels;
 use line::{Line, LineRefusal};
+use std::ops::Range;
 
 // How many places there are: 832 × 2⁴⁰.
 const PLACES: u64 = 914_793_674_309_632;
@@ -23,13 +24,6 @@ const BAD_BURSTS: u8 = 10;
 pub struct Burst {
     pub offset: u64,
     pub length: u32,
-}
-
-// The positions of a segment from `from` up to, and not including, `to`.
-#[derive(Clone, Copy)]
-struct Part {
-    from: usize,
-    to: usize,
 }
 
 // A layer with its bursts over a lower line.
@@ -97,26 +91,20 @@ fn within(bursts: &[Burst], place: u64) -> bool
     bursts.iter().any(|burst| covered(*burst, place))
 }
 
-// The part of the segment whose first symbol has the place `first` that lies in a burst.
-fn part_of(burst: Burst, first: u64) -> Part
-    ensures ordered { result.from ≤ result.to }
-    ensures inside { result.to ≤ 832 }
-    ensures exact { (i : ℕ) → i < 832 → in_part result.from result.to i ≡ in_burst burst (first + i) }
+// The positions of the segment whose first symbol has the place `first` that lie in a burst.
+fn part_of(burst: Burst, first: u64) -> Range<usize>
+    ensures ordered { result.start ≤ result.end }
+    ensures inside { result.end ≤ 832 }
+    ensures exact { (i : ℕ) → i < 832 → in_part result.start result.end i ≡ in_burst burst (first + i) }
 {
     let length = burst.length as u64;
     if burst.offset >= first {
-        let from = (burst.offset - first).min(832);
-        let to = (from + length).min(832);
-        Part {
-            from: from as usize,
-            to: to as usize,
-        }
+        let start = (burst.offset - first).min(832);
+        let end = (start + length).min(832);
+        start as usize..end as usize
     } else {
-        let to = length.saturating_sub(first - burst.offset).min(832);
-        Part {
-            from: 0,
-            to: to as usize,
-        }
+        let end = length.saturating_sub(first - burst.offset).min(832);
+        0..end as usize
     }
 }
 
@@ -124,8 +112,7 @@ fn part_of(burst: Burst, first: u64) -> Part
 fn meets(burst: Burst, first: u64) -> bool
     ensures { result ≡ false → (i : ℕ) → i < 832 → in_burst burst (first + i) ≡ false }
 {
-    let part = part_of(burst, first);
-    part.from < part.to
+    !part_of(burst, first).is_empty()
 }
 
 // Whether one of the bursts meets that segment.
@@ -143,44 +130,29 @@ fn opposite(level: i8) -> i8
     -level
 }
 
-// Writes the opposite levels of a part of a segment.
-fn negate(segment: &[i8], part: Part, out: &mut [i8])
-    requires segment_whole { length segment.now ≡ 832 }
-    requires levels { all_levels segment.now ≡ true }
-    requires out_whole { length out.old ≡ 832 }
-    requires ordered { part.from ≤ part.to }
-    requires inside { part.to ≤ 832 }
-    ensures { (k : ℕ) → k < 832 → slice_index_or out.new k (pos 0) ≡ (if in_part part.from part.to k then neg_ℤ (slice_index_or segment.now k (pos 0)) else slice_index_or out.old k (pos 0)) }
+// Writes the opposite levels.
+fn negate(levels: &[i8], out: &mut [i8])
+    requires levels { all_levels levels.now ≡ true }
+    requires same { length out.old ≡ length levels.now }
+    ensures { out.new ≡ map neg_ℤ levels.now }
 {
-    for i in part.from..part.to {
-        out[i] = opposite(segment[i]);
+    out.copy_from_slice(levels);
+    for level in out.iter_mut() {
+        *level = opposite(*level);
     }
 }
 
-// Negates the symbols in the bursts, in a copy of a segment whose first symbol has the place `first`.
-fn alter(bursts: &[Burst], first: u64, segment: &[i8], copy: &mut [i8])
-    requires whole { length segment.now ≡ 832 }
-    requires levels { all_levels segment.now ≡ true }
-    requires same { copy.old ≡ segment.now }
-    ensures { copy.new ≡ altered bursts.now first segment.now }
+// The segment whose first symbol has the place `first`, with the symbols in the bursts negated.
+fn alter(bursts: &[Burst], first: u64, segment: &[i8; 832]) -> [i8; 832]
+    requires { all_levels segment.now ≡ true }
+    ensures { result ≡ altered bursts.now first segment.now }
 {
+    let mut copy = *segment;
     for burst in bursts {
-        negate(segment, part_of(*burst, first), copy);
+        let Range { start, end } = part_of(*burst, first);
+        negate(&segment[start..end], &mut copy[start..end]);
     }
-}
-
-// Whether a segment is one that the bursts alter.
-fn is_altered(bursts: &[Burst], first: u64, segment: &[i8]) -> bool
-    ensures whole { result ≡ true → (length segment.now ≡ 832) × (all_levels segment.now ≡ true) }
-    ensures untouched { result ≡ false → length segment.now ≡ 832 → all_levels segment.now ≡ true → altered bursts.now first segment.now ≡ segment.now }
-{
-    if segment.len() != 832 {
-        return false;
-    }
-    if !any_meets(bursts, first) {
-        return false;
-    }
-    are_levels(segment)
+    copy
 }
 
 impl<L: Line> BurstLayer<L> {
@@ -201,13 +173,13 @@ impl<L: Line> BurstLayer<L> {
         ensures lower { MatchResult result (λ _. Arrived (L.Line.state self.old.lower) (altered self.old.list.items (first_place (L.Line.state self.old.lower)) segment.now) (L.Line.state self.new.lower)) (λ _. L.Line.state self.new.lower ≡ L.Line.state self.old.lower) }
     {
         let first = 832 * self.number();
-        if !is_altered(&self.list, first, segment) {
+        if !any_meets(&self.list, first) {
             return self.lower.put(segment);
         }
-        let mut copy = [0i8; 832];
-        copy.copy_from_slice(segment);
-        alter(&self.list, first, segment, &mut copy);
-        self.lower.put(&copy)
+        let Ok(levels) = Levels::of(segment) else {
+            return self.lower.put(segment);
+        };
+        self.lower.put(&alter(&self.list, first, levels.symbols))
     }
 }
 

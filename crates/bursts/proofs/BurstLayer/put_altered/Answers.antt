@@ -1,24 +1,28 @@
-use Rattle.std.proofs.Common.{◌≡◌, ◌*◌, List, ℤ, vec_items, refl, ap, ◌∙◌, subst, MatchResult}
-use Rattle.line.specs.State.{Arrived}
-use Rattle.line.specs.Line.{put_answer}
+use Rattle.std.proofs.Common.{◌*◌, ◌+◌, List, vec_items, sym, refl, ap, ◌∙◌, arith}
 use Rattle.bursts.specs.declared.Burst.{Burst}
-use Rattle.bursts.specs.Bursts.{altered}
+use Rattle.bursts.specs.Bursts.{in_bursts}
 use Rattle.bursts.specs.Layer.{first_place}
-use Rattle.bursts.proofs.Alters.{altered_answer}
+use Rattle.bursts.proofs.Alters.{altered_none, altered_answer, untouched}
 use Rattle.bursts.proofs.BurstLayer.put_altered.Goals as goal
 
-pub returns : goal.returns
-returns g c =
+pub returns-then-not-any_meets-clause-lower : goal.returns-then-not-any_meets-clause-lower
+returns-then-not-any_meets-clause-lower g c =
     let state = g.L.Line.state in
     let s = state c.args.self.now.lower in
-    let t = state c.put-2.new.self in
     let bs = vec_items c.args.self.now.list in
     let f = c.args.segment.now in
-    let e : c.alter.new.copy ≡ altered bs (first_place s) f =
-    c.alter.ensures ∙ ap (λ (l : List Burst). altered l (832 * c.number-first.result) f) c.deref-2.ensures.value ∙
-    ap (λ n. altered bs (832 * n) f) c.number-first.ensures in
-    record {
-      answer = c.put-2.ensures.answer ∙ ap (put_answer s) e ∙ altered_answer s bs (first_place s) f;
-      list = refl;
-      lower = subst (λ (h : List ℤ). MatchResult c.put-2.result (λ _. Arrived s h t) (λ _. t ≡ s)) e c.put-2.ensures.after;
-    }
+    untouched s (state c.put.new.self) bs (first_place s) f c.put.result c.put.ensures.answer
+    (λ long levels. altered_none bs (first_place s) f (λ i h.
+    ap (λ (l : List Burst). in_bursts l (first_place s + i)) (sym c.deref.ensures.value) ∙ ap (λ n. in_bursts c.deref.result.now (832 * n + i)) (sym c.number-first.ensures) ∙ c.if-not-any_meets.ensures refl i (omega arith)))
+    c.put.ensures.after
+
+pub returns-clause-answer : goal.returns-clause-answer
+returns-clause-answer g c =
+    let s = g.L.Line.state c.args.self.now.lower in
+    let bs = vec_items c.args.self.now.list in
+    let same = altered_answer s bs (first_place s) c.args.segment.now in
+    let d = c.deref-2.ensures.value in
+    let a = c.alter.ensures in
+    let n = c.number-first.ensures in
+    let e = c.in-Ok.ensures in
+    let p = c.put-2.ensures.answer in cc
