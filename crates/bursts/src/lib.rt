@@ -10,11 +10,12 @@ ghost use Rattle.bursts.specs.Layer.{layer_state, first_place};
 ghost use Rattle.std.proofs.Common.{rules};
 
 use line::levels::Levels;
+use line::ring::NUMBERS;
 use line::{Line, LineRefusal};
 use std::ops::Range;
 
 // How many places there are: 832 × 2⁴⁰.
-const PLACES: u64 = 914_793_674_309_632;
+const PLACES: u64 = 832 * NUMBERS;
 
 // The number by which a bad list of bursts is refused.
 const BAD_BURSTS: u8 = 10;

@@ -3,6 +3,9 @@ ghost use Rattle.std.specs.Prelude.{◌^◌, ◌<◌, ◌≤◌};
 
 pub mod calls;
 
+// How many segments a line may count: 2⁴⁰.
+pub const NUMBERS: u64 = 1_099_511_627_776;
+
 // Which slots hold the waiting segments, and the number of the next segment.
 #[derive(Drop)]
 pub struct Ring {

@@ -3,10 +3,11 @@ ghost use Rattle.std.specs.Prelude.{◌≡◌, ◌+◌, ◌<◌, ◌≤◌, leng
 ghost use Rattle.line.specs.Slots.{following, put_fault, take_fault, SlotPut, SlotTaken, fits_ring, new_slots};
 ghost use Rattle.line.specs.Ring.{slots};
 
-use super::Ring;
+use super::{NUMBERS, Ring};
 use crate::LineFault;
 
 // The slot that lies `steps` behind a slot, in a ring of `room` slots.
+// By a test: `%` would divide at every put and take.
 fn later(room: usize, slot: usize, steps: usize) -> usize
     requires slot { slot < room }
     requires steps { steps ≤ room }
@@ -26,7 +27,7 @@ impl Ring {
         ensures answer { is_some result ≡ fits_ring room first }
         ensures made { IfSome result (λ ring. slots ring ≡ new_slots room first) }
     {
-        if room == 0 || room > 64 || first > 1_099_511_627_775 {
+        if room == 0 || room > 64 || first >= NUMBERS {
             return None;
         }
         Some(Ring {
@@ -41,7 +42,7 @@ impl Ring {
     pub fn put(&mut self) -> Result<usize, LineFault>
         ensures { MatchResult result (λ k. SlotPut (slots self.old) k (slots self.new)) (λ f. (put_fault (slots self.old) ≡ Some f) × (self.new ≡ self.old)) }
     {
-        if self.number == 1_099_511_627_776 {
+        if self.number == NUMBERS {
             return Err(LineFault::UsedUp);
         }
         if self.count == self.room {
