@@ -62,6 +62,7 @@ fn is_bad(end: u64, burst: Burst) -> bool
 }
 
 // The number of the first bad pair of a list, 16 where it is too long.
+// A loop and not `position`: each burst is judged by the end of the one before it.
 pub fn first_bad(list: &[Burst]) -> Option<usize>
     ensures { result ≡ bad_pair list.now }
 {
