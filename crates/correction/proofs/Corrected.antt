@@ -1,11 +1,14 @@
 -- The corrected row: byte for byte, in how many places it differs, and that no other code row is near.
-use Rattle.std.proofs.Common.{◌≡◌, ℕ, suc, ◌+◌, ◌-◌, ◌/◌, ◌<◌, ◌≤◌, Bool, true, false, cond, T, eqb, ◌≢◌, List, [], ◌∷◌, length, get_or, drop, sym, refl, ap, ◌∙◌, ap₂, arith, eqb→eq}
-use lib.Dec.{eqb_refl}
-use Rattle.std.proofs.lemmas.List.{drop_more, drop_all}
+use Rattle.std.proofs.Common.{◌≡◌, ℕ, suc, ◌+◌, ◌-◌, ◌/◌, ◌<◌, ◌≤◌, Bool, true, false, cond, not, T, eqb, ◌==◌, count_by, List, [], ◌∷◌, length, get_or, set, sym, refl, ap, ◌∙◌, ap₂, arith, eqb→eq, get_or-set_other, get_or-set_same}
+use native.Mathlib.Decide.{ℕ_discrete}
+use lib.Bits.{bit_xor}
+use Rattle.std.specs.List.{zip}
+use Rattle.std.proofs.lemmas.List.Sums.{sum_by-cons}
 use Rattle.galois.specs.Field.{gf_power}
 use Rattle.moments.proofs.Moments as M
 use Rattle.rows.specs.Code.{Bytes, row_value, differing}
-use Rattle.rows.proofs.Bytes.{Byte, to_byte, add, mul, nil, one, laws}
+use Rattle.rows.proofs.Bytes.{Byte, to_byte, add, mul, nil, one, laws, to_byte_xor}
+use Rattle.rows.proofs.Ring.{add_nil}
 use Rattle.rows.proofs.Unique.{places_distinct, bytes_code, bytes_equal, apart, apart_differing}
 use Rattle.rows.proofs.Values.{bytes, place, length_bytes, value_at}
 use Rattle.correction.specs.Equations.{Locates}
@@ -15,36 +18,15 @@ use Rattle.correction.proofs.Roots.{one_nil, few_roots}
 use Rattle.correction.proofs.Syndromes.{polynomial_length, solves_hank}
 
 -- ---- counting differences
-eqb_other : (m n : ℕ) → m ≢ n → eqb m n ≡ false
-eqb_other m n h = go (eqb m n) (eqb→eq m n)
+-- they are the pairs of different bytes
+pub differing_counted : (a b : List ℕ) → count_by (λ (p : ℕ × ℕ). not (p.0 == p.1)) (zip a b) ≡ differing a b
+differing_counted [] b = refl
+differing_counted (x ∷ a) [] = refl
+differing_counted (x ∷ a) (y ∷ b) = sum_by-cons (λ (p : ℕ × ℕ). cond (not (p.0 == p.1)) 1 0) (x, y) (zip a b) ∙ go (eqb x y) (differing_counted a b)
   where
-    go : (b : Bool) → (T b → m ≡ n) → b ≡ false
-    go true f = absurd (h (f tt))
-    go false f = refl
-
-eqb_same : (m n : ℕ) → m ≡ n → eqb m n ≡ true
-eqb_same m n e = rw e (go (eqb n n) (eqb_refl n))
-  where
-    go : (b : Bool) → T b → b ≡ true
-    go true t = refl
-    go false t = absurd t
-
-module _ (a b : List ℕ) (i : ℕ) (ha : i < length a) (hb : i < length b) where
-  rest : ℕ
-  rest = differing (drop (i + 1) a) (drop (i + 1) b)
-
-  differing_step : (t : Bool) → eqb (get_or a i 0) (get_or b i 0) ≡ t → differing (drop i a) (drop i b) ≡ cond t (differing (drop (i + 1) a) (drop (i + 1) b)) (suc (differing (drop (i + 1) a) (drop (i + 1) b)))
-  unfolding rest
-  differing_step t e = ap₂ differing (drop_more a i 0 ha) (drop_more b i 0 hb) ∙ ap (λ (x : Bool). cond x rest (suc rest)) e
-
-  pub differing_same : get_or a i 0 ≡ get_or b i 0 → differing (drop i a) (drop i b) ≡ differing (drop (i + 1) a) (drop (i + 1) b)
-  differing_same e = differing_step true (eqb_same (get_or a i 0) (get_or b i 0) e)
-
-  pub differing_other : get_or a i 0 ≢ get_or b i 0 → differing (drop i a) (drop i b) ≡ suc (differing (drop (i + 1) a) (drop (i + 1) b))
-  differing_other e = differing_step false (eqb_other (get_or a i 0) (get_or b i 0) e)
-
-pub differing_end : (a b : List ℕ) (i : ℕ) → length a ≤ i → differing (drop i a) (drop i b) ≡ 0
-differing_end a b i h = ap (λ (l : List ℕ). differing l (drop i b)) (drop_all i a h)
+    go : (t : Bool) → count_by (λ (p : ℕ × ℕ). not (p.0 == p.1)) (zip a b) ≡ differing a b → cond (not t) 1 0 + count_by (λ (p : ℕ × ℕ). not (p.0 == p.1)) (zip a b) ≡ cond t (differing a b) (suc (differing a b))
+    go true e = omega arith
+    go false e = omega arith
 
 -- rows of one length that differ nowhere are equal
 pub differing_nowhere : (a b : List ℕ) → length a ≡ length b → differing a b ≡ 0 → a ≡ b
@@ -71,6 +53,35 @@ corrected_entries f (x ∷ xs) (y ∷ ys) e h =
     (h 0 (omega arith) ∙ ap (λ (k : ℕ). add (to_byte x) (f (place k))) (n ∙ sym (length_bytes xs)))
     (corrected_entries f xs ys (omega arith)
     (λ k l. h (suc k) (omega arith) ∙ ap (λ (j : ℕ). add (to_byte (get_or xs k 0)) (f (place j))) (let q : suc (length xs) - 1 - suc k ≡ length xs - 1 - k = omega arith in q)))
+
+-- the row old, corrected before place i
+pub record CorrectedTo (f : Byte → Byte) (old : List ℕ) (i : ℕ) (new : List ℕ) : Type 0 where
+  pub done : (k : ℕ) → k < i → to_byte (get_or new k 0) ≡ add (to_byte (get_or old k 0)) (f (place (length old - 1 - k)))
+  pub left : (k : ℕ) → i ≤ k → get_or new k 0 ≡ get_or old k 0
+
+module _ (f : Byte → Byte) (old new : List ℕ) (i : ℕ) (S : CorrectedTo f old i new) where
+  -- nothing is added at place i
+  pub corrected_kept : f (place (length old - 1 - i)) ≡ nil → CorrectedTo f old (i + 1) new
+  corrected_kept e =
+      record {
+        done = λ k h. elim (ℕ_discrete k i) [
+          | yes q ↦ rw q (ap to_byte (S.left i (omega arith)) ∙ sym (add_nil (to_byte (get_or old i 0))) ∙ ap (add (to_byte (get_or old i 0))) (sym e))
+          | no q ↦ S.done k (omega arith)
+        ];
+        left = λ k h. S.left k (omega arith);
+      }
+
+  -- y is added at place i
+  pub corrected_added : (y : ℕ) → i < length new → to_byte y ≡ f (place (length old - 1 - i)) → CorrectedTo f old (i + 1) (set new i (bit_xor (get_or new i 0) y))
+  corrected_added y l e =
+      let z : ℕ = bit_xor (get_or new i 0) y in
+      record {
+        done = λ k h. elim (ℕ_discrete k i) [
+          | yes q ↦ rw (q, get_or-set_same new i z 0 l) (to_byte_xor (get_or new i 0) y ∙ ap₂ add (ap to_byte (S.left i (omega arith))) e)
+          | no q ↦ rw (get_or-set_other new i k z 0 q) (S.done k (omega arith))
+        ];
+        left = λ k h. get_or-set_other new i k z 0 (λ q. absurd (omega arith)) ∙ S.left k (omega arith);
+      }
 
 -- a code row near the row is the corrected row
 pub near_is_corrected : (p : ℕ) (row out s v places c : List ℕ) (d : ℕ) → length row ≤ 255 → 2 ≤ p → d + 1 ≤ length v

@@ -1,6 +1,7 @@
 -- Discrepancies as sums in the field: of a polynomial with a multiple of another, and of a short polynomial.
-use Rattle.std.proofs.Common.{◌≡◌, ℕ, zero, suc, ◌+◌, ◌-◌, ◌<◌, ◌≤◌, List, get_or, sym, refl, ap, ◌∙◌, ap₂, add-zero, add-suc, add-one, arith, lit<}
+use Rattle.std.proofs.Common.{◌≡◌, ℕ, zero, suc, ◌+◌, ◌-◌, ◌<◌, ◌≤◌, List, length, get_or, take, drop, length-take-le, get_or-take, sym, refl, ap, ◌∙◌, ap₂, add-zero, zero-add, add-suc, add-one, arith, lit<}
 use lib.Bits.{bit_xor, xor_lt, xor_zero_r}
+use Rattle.std.proofs.lemmas.List.{get_or-drop}
 use Rattle.galois.specs.Field.{gf_mul}
 use Rattle.galois.proofs.Laws.{mul_lt, mul_zero_right}
 use Rattle.moments.proofs.Moments as M
@@ -64,3 +65,20 @@ module _ (m : ℕ) (s r v u : List ℕ) (c : ℕ) (e : (k : ℕ) → k < m → g
       to_byte_eq (discrepancy m r s i) 0 (discrepancy_lt m r s i h) (lit< tt)
       (discrepancy_plus i ∙ ap (λ (x : Byte). add (to_byte (discrepancy m v s i)) (mul x (to_byte (discrepancy m u s i)))) (ap to_byte p ∙ to_byte_mul (discrepancy m v s i) b)
       ∙ M.clears Byte add mul nil one laws (to_byte (discrepancy m v s i)) (to_byte (discrepancy m u s i)) (to_byte b) (sym (to_byte_mul (discrepancy m u s i) b) ∙ ap to_byte q))
+
+-- one product more
+pub discrepancy_more : (v s : List ℕ) (m n sum x y z : ℕ) → sum ≡ discrepancy m v s 0 → x ≡ get_or s m 0 → y ≡ get_or v m 0 → z ≡ gf_mul x y → n ≡ m + 1 → bit_xor sum z ≡ discrepancy n v s 0
+unfolding discrepancy
+discrepancy_more v s m n sum x y z e ex ey ez en =
+    ap₂ bit_xor e (ez ∙ ap₂ gf_mul (ex ∙ ap (λ (k : ℕ). get_or s k 0) (sym (zero-add m))) ey) ∙ ap (λ (k : ℕ). discrepancy k v s 0) (sym (en ∙ add-one m))
+
+-- of the first m coefficients alone, and of n syndromes from number i on
+pub discrepancy_at : (v s : List ℕ) (m n i : ℕ) → m ≤ length v → m ≤ n → discrepancy (length (take m v)) (take m v) (take n (drop i s)) 0 ≡ discrepancy m v s i
+unfolding discrepancy
+discrepancy_at v s m n i h l = ap (λ (k : ℕ). discrepancy k (take m v) (take n (drop i s)) 0) (length-take-le m v h) ∙ go m (omega arith)
+  where
+    go : (k : ℕ) → k ≤ m → discrepancy k (take m v) (take n (drop i s)) 0 ≡ discrepancy k v s i
+    go zero q = refl
+    go (suc k) q =
+        ap₂ bit_xor (go k (omega arith))
+        (ap₂ gf_mul (ap (λ (j : ℕ). get_or (take n (drop i s)) j 0) (zero-add k) ∙ get_or-take n (drop i s) k 0 (omega arith) ∙ get_or-drop i s k 0) (get_or-take m v k 0 (omega arith)))

@@ -1,7 +1,8 @@
 -- The search for roots: the terms of a locator at each place, from the first byte's to the last, and the roots that were found.
-use Rattle.std.proofs.Common.{◌≡◌, ℕ, zero, suc, ◌+◌, ◌-◌, ◌*◌, ◌/◌, ◌%◌, ◌<◌, ◌≤◌, ◌≢◌, List, [], ◌∷◌, ◌++◌, length, get_or, take, set, sym, refl, ap, ◌∙◌, ap₂, append_assoc, add-mul, mul-zero, mul-suc, arith, lit<, length-append, length-take-le, get_or-set_other, get_or-set_same}
-use native.Mathlib.Decide.{ℕ_discrete}
-use Rattle.std.proofs.lemmas.List.{take_more_set, map_push}
+use Rattle.std.proofs.Common.{◌≡◌, ℕ, zero, suc, ◌+◌, ◌-◌, ◌*◌, ◌/◌, ◌%◌, ◌<◌, ◌≤◌, ◌≢◌, List, [], ◌∷◌, ◌++◌, length, get_or, take, sym, refl, ap, ◌∙◌, ap₂, subst, get_or-take, append_assoc, add-mul, mul-zero, mul-suc, arith, lit<, length-append, length-take-le}
+use native.Mathlib.Decide.{dec_lt}
+use borrow.Rule.Slice.PartMut.{put_mid, post_of}
+use Rattle.std.proofs.lemmas.List.{map_push, get_or_append_left, get_or-append-add}
 use Rattle.galois.specs.Field.{gf_mul, gf_power}
 use Rattle.galois.proofs.Laws.{two_power_255}
 use Rattle.moments.proofs.Moments as M
@@ -10,7 +11,7 @@ use Rattle.rows.proofs.Ring.{mul_one}
 use Rattle.rows.proofs.Unique.{places_distinct}
 use Rattle.rows.proofs.Values.{bytes, power, place, length_bytes, to_byte_power, power_add}
 use Rattle.correction.specs.Equations.{Monic, sum_on}
-use Rattle.correction.specs.Polynomials.{entry, polynomial, value_of, roots_of, found}
+use Rattle.correction.specs.Polynomials.{entry, polynomial, value_of, roots_of}
 use Rattle.correction.proofs.Syndromes.{polynomial_length, polynomial_at}
 
 pub one_nil : one ≢ nil
@@ -76,13 +77,27 @@ sum_is_value v e d q m h hq T =
 abbrev pub Value : List ℕ → ℕ → ℕ → ℕ → ℕ → Type 0
 Value v d n k y = k < n → value_of (polynomial v d) (place (n - 1 - k)) ≡ to_byte y
 
--- one value more
-pub values_more : (v : List ℕ) (d n : ℕ) (l : List ℕ) (i y : ℕ) → i < length l → ((k : ℕ) → k < i → Value v d n k (get_or l k 0)) → Value v d n i y
-    → (k : ℕ) → k < i + 1 → Value v d n k (get_or (set l i y) k 0)
-values_more v d n l i y h old new k q =
-    elim (ℕ_discrete k i) [
-      | yes e ↦ rw (e, get_or-set_same l i y 0 h) new
-      | no e ↦ rw (get_or-set_other l i k y 0 e) (old k (omega arith))
+-- a value q places on, from the terms at place i
+pub value_on : (v : List ℕ) (d n i q : ℕ) (e : List ℕ) (y : ℕ) → d + 1 ≤ length v → ((j : ℕ) → j < d + 1 → (q + 1) * j ≤ 255) → (i < n → Terms v d (n - i) e) → y ≡ sum_on (q + 1) (d + 1) e
+    → Value v d n (i + q) y
+value_on v d n i q e y long hq T ey h =
+    let z : n - i ≡ n - 1 - (i + q) + (q + 1) = omega arith in
+    sum_is_value v e d (q + 1) (n - 1 - (i + q)) long hq (subst (λ (m : ℕ). Terms v d m e) z (T (omega arith))) ∙ ap to_byte (sym ey)
+
+-- the values r written behind the first i
+pub values_more : (v : List ℕ) (d n i m : ℕ) (l r : List ℕ) → i ≤ length l → ((k : ℕ) → k < i → Value v d n k (get_or l k 0)) → ((q : ℕ) → q < length r → Value v d n (i + q) (get_or r q 0))
+    → (k : ℕ) → k < i + length r → Value v d n k (get_or (put_mid i m l r) k 0)
+values_more v d n i m l r h old new k b =
+    let rest = post_of i m l in
+    let li : length (take i l) ≡ i = length-take-le i l h in
+    elim (dec_lt k i) [
+      | yes q ↦ rw (get_or_append_left (take i l) (r ++ rest) 0 k (omega arith) ∙ get_or-take i l k 0 q) (old k q)
+      | no q ↦
+          let j : ℕ = k - i in
+          let e : k ≡ i + j = omega arith in
+          let there : get_or (put_mid i m l r) (i + j) 0 ≡ get_or r j 0 =
+          ap (λ (x : ℕ). get_or (put_mid i m l r) (x + j) 0) (sym li) ∙ get_or-append-add (take i l) (r ++ rest) j 0 ∙ get_or_append_left r rest 0 j (omega arith) in
+          rw (e, there) (new j (omega arith))
     ]
 
 -- ---- a locator of degree d has at most d roots
@@ -100,43 +115,42 @@ few_roots v d n long h w =
     omega arith
 
 -- ---- the roots among the first i places, and those that are left
-pub record Found (v : List ℕ) (d n i : ℕ) (at : List ℕ) (len : ℕ) : Type 0 where
-  pub few : len ≤ d
-  pub are : found at len ++ roots_of (polynomial v d) (n - i) ≡ roots_of (polynomial v d) n
+pub record Found (v : List ℕ) (d n i : ℕ) (at : List ℕ) : Type 0 where
+  pub few : length at ≤ d
+  pub are : bytes at ++ roots_of (polynomial v d) (n - i) ≡ roots_of (polynomial v d) n
 
-pub found_start : (v : List ℕ) (d n : ℕ) (at : List ℕ) → Found v d n 0 at 0
-found_start v d n at = record { few = omega arith; are = let e : n - 0 ≡ n = omega arith in ap (roots_of (polynomial v d)) e }
+pub found_start : (v : List ℕ) (d n : ℕ) → Found v d n 0 []
+found_start v d n = record { few = omega arith; are = let e : n - 0 ≡ n = omega arith in ap (roots_of (polynomial v d)) e }
 
 module _ (v : List ℕ) (d n i : ℕ) (y : ℕ) (hi : i < n) (there : value_of (polynomial v d) (place (n - 1 - i)) ≡ to_byte y) where
   -- one place more is a root
-  pub found_hit : (at : List ℕ) (len x : ℕ) → d + 1 ≤ length v → n ≤ 255 → d ≤ length at → x ≡ gf_power 2 (n - 1 - i) → Monic d v → y ≡ 0
-      → Found v d n i at len → (len < length at) × Found v d n (i + 1) (set at len x) (len + 1)
-  found_hit at len x long hn room ex w z S =
+  pub found_hit : (at : List ℕ) (x : ℕ) → d + 1 ≤ length v → n ≤ 255 → x ≡ gf_power 2 (n - 1 - i) → Monic d v → y ≡ 0
+      → Found v d n i at → (length at < d) × Found v d n (i + 1) (at ++ x ∷ [])
+  found_hit at x long hn ex w z S =
       let cs : List Byte = polynomial v d in
       let m : ℕ = n - 1 - i in
       let now : n - i ≡ suc m = omega arith in
       let later : n - (i + 1) ≡ m = omega arith in
       let hit : roots_of cs (suc m) ≡ place m ∷ roots_of cs m = M.roots_hit Byte add mul nil one laws (to_byte 2) cs m (there ∙ ap to_byte z) in
       let f : length (roots_of cs n) ≤ d = few_roots v d n long hn w in
-      let less : len + suc (length (roots_of cs m)) ≡ length (roots_of cs n) =
-      ap (λ (k : ℕ). k + suc (length (roots_of cs m))) (sym (length_bytes (take len at) ∙ length-take-le len at (let a = S.few in omega arith)))
-      ∙ sym (length-append (found at len) (place m ∷ roots_of cs m))
-      ∙ ap (λ (l : List Byte). length (found at len ++ l)) (sym (ap (roots_of cs) now ∙ hit)) ∙ ap length S.are in
-      let l : len < length at = omega arith in (
-        l,
+      let less : length at + suc (length (roots_of cs m)) ≡ length (roots_of cs n) =
+      ap (λ (k : ℕ). k + suc (length (roots_of cs m))) (sym (length_bytes at))
+      ∙ sym (length-append (bytes at) (place m ∷ roots_of cs m))
+      ∙ ap (λ (l : List Byte). length (bytes at ++ l)) (sym (ap (roots_of cs) now ∙ hit)) ∙ ap length S.are in (
+        omega arith,
         record {
-          few = omega arith;
+          few = let one_more = length-append at (x ∷ []) in omega arith;
           are =
-              ap₂ (λ (a : List Byte) (k : ℕ). a ++ roots_of cs k) (ap bytes (take_more_set at len x l) ∙ map_push to_byte (take len at) x) later
-              ∙ append_assoc (found at len) (to_byte x ∷ []) (roots_of cs m)
-              ∙ ap (λ (b : Byte). found at len ++ (b ∷ roots_of cs m)) (ap to_byte ex ∙ to_byte_power 2 m)
-              ∙ ap (λ (a : List Byte). found at len ++ a) (sym (ap (roots_of cs) now ∙ hit)) ∙ S.are;
+              ap₂ (λ (a : List Byte) (k : ℕ). a ++ roots_of cs k) (map_push to_byte at x) later
+              ∙ append_assoc (bytes at) (to_byte x ∷ []) (roots_of cs m)
+              ∙ ap (λ (b : Byte). bytes at ++ (b ∷ roots_of cs m)) (ap to_byte ex ∙ to_byte_power 2 m)
+              ∙ ap (λ (a : List Byte). bytes at ++ a) (sym (ap (roots_of cs) now ∙ hit)) ∙ S.are;
         },
       )
 
   -- or it is not
-  pub found_miss : (at : List ℕ) (len : ℕ) → y ≢ 0 → y < 256 → Found v d n i at len → Found v d n (i + 1) at len
-  found_miss at len z hy S =
+  pub found_miss : (at : List ℕ) → y ≢ 0 → y < 256 → Found v d n i at → Found v d n (i + 1) at
+  found_miss at z hy S =
       let cs : List Byte = polynomial v d in
       let m : ℕ = n - 1 - i in
       let now : n - i ≡ suc m = omega arith in
@@ -144,7 +158,7 @@ module _ (v : List ℕ) (d n i : ℕ) (y : ℕ) (hi : i < n) (there : value_of (
       record {
         few = S.few;
         are =
-            ap (λ (a : List Byte). found at len ++ a)
+            ap (λ (a : List Byte). bytes at ++ a)
             (ap (roots_of cs) later ∙ sym (ap (roots_of cs) now ∙ M.roots_miss Byte add mul nil one laws (to_byte 2) cs m (λ q. z (to_byte_eq y 0 hy (lit< tt) (sym there ∙ q)))))
             ∙ S.are;
       }

@@ -1,5 +1,5 @@
 -- The equations that the coefficients of a locator solve, and how far an elimination has come.
-use Rattle.std.specs.Prelude.{◌≡◌, ℕ, zero, suc, ◌+◌, ◌-◌, ◌*◌, ◌<◌, ◌≤◌, cond, ◌≢◌, List, [], ◌==◌, bit_xor, slice_index, slice_index_or}
+use Rattle.std.specs.Prelude.{◌≡◌, ℕ, zero, suc, ◌+◌, ◌-◌, ◌*◌, ◌<◌, ◌≤◌, List, length, Option, Some, None, is_some, count_by, bit_xor, slice_index, slice_index_or}
 use Rattle.galois.specs.Field.{gf_mul, gf_power}
 
 -- the first m coefficients of v against the syndromes from i on: what equation i asks to be 0
@@ -15,17 +15,17 @@ Solves m v s n = (i : ℕ) → i < n → discrepancy m v s i ≡ 0
 abbrev pub Monic : ℕ → List ℕ → Type 0
 Monic j v = (slice_index v j ≡ 1) × ((k : ℕ) → j < k → slice_index v k ≡ 0)
 
--- how many of the first m entries are not 0
-abbrev pub nonzeros : ℕ → List ℕ → ℕ
-nonzeros zero l = 0
-nonzeros (suc m) l = cond (slice_index l m == 0) (nonzeros m l) (suc (nonzeros m l))
+-- u is a pivot of equation i, of degree below j: it solves the equations before and fails this one, where the inverse is that of its discrepancy
+pub record IsPivot (t j : ℕ) (s : List ℕ) (i : ℕ) (u : List ℕ) (inverse : ℕ) : Type 0 where
+  pub lower : (k : ℕ) → j ≤ k → slice_index u k ≡ 0
+  pub solves : Solves (t + 1) u s i
+  pub fails : gf_mul (discrepancy (t + 1) u s i) inverse ≡ 1
 
--- j of the t equations have a pivot: a polynomial of degree below j that solves the equations before it and fails this one; the inverse of its discrepancy is beside it (0: no pivot)
-pub record Eliminated (t j : ℕ) (s : List ℕ) (pivots : List (List ℕ)) (inverses : List ℕ) : Type 0 where
-  pub lower : (i : ℕ) → slice_index inverses i ≢ 0 → (k : ℕ) → j ≤ k → slice_index (slice_index_or pivots i []) k ≡ 0
-  pub solves : (i : ℕ) → slice_index inverses i ≢ 0 → Solves (t + 1) (slice_index_or pivots i []) s i
-  pub fails : (i : ℕ) → slice_index inverses i ≢ 0 → gf_mul (discrepancy (t + 1) (slice_index_or pivots i []) s i) (slice_index inverses i) ≡ 1
-  pub count : nonzeros t inverses ≡ j
+-- j of the t equations have a pivot, which has a polynomial and an inverse
+pub record Eliminated {P : Type 0} (polynomial : P → List ℕ) (inverse : P → ℕ) (t j : ℕ) (s : List ℕ) (pivots : List (Option P)) : Type 0 where
+  pub long : length pivots ≡ t
+  pub each : (i : ℕ) (p : P) → slice_index_or pivots i None ≡ Some p → IsPivot t j s i (polynomial p) (inverse p)
+  pub count : count_by is_some pivots ≡ j
 
 -- v is monic of degree d, at most t, and solves the first t equations
 pub record Locates (t : ℕ) (s v : List ℕ) (d : ℕ) : Type 0 where

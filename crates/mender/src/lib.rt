@@ -9,7 +9,7 @@ mod syndromes;
 ghost use Rattle.std.specs.Prelude.{◌≡◌, ◌<◌, ◌≤◌, length, MatchResult};
 ghost use Rattle.correction.specs.Equations.{Locates};
 ghost use Rattle.correction.specs.Near.{NearLaws};
-ghost use Rattle.correction.specs.Polynomials.{entry as syndrome, polynomial, found, correction_at, corrected, Values};
+ghost use Rattle.correction.specs.Polynomials.{entry as syndrome, polynomial, correction_at, corrected, Values};
 ghost use Rattle.mender.specs.Mended.{Mended, accepted, Searched};
 ghost use Rattle.reed_solomon.specs.Complete.{complete_answer};
 ghost use Rattle.rows.proofs.Values.{bytes};
@@ -38,38 +38,25 @@ pub enum Mending {
     Spoiled,
 }
 
-// The row with the magnitude added at each root.
-fn correct(row: &[u8], candidate: &mut [u8], s: &[u8; 20], locator: &Locator, roots: &Roots)
-    requires same_size { length candidate.old ≡ length row.now }
-    requires at_most_255 { length row.now ≤ 255 }
-    requires at_most_ten { roots.now.len ≤ 10 }
-    requires places { length roots.now.at ≡ 10 }
-    requires values_size { length roots.now.values ≡ 256 }
-    requires values { Values (polynomial locator.now.coefficients locator.now.degree) (length row.now) roots.now.values }
-    ensures { bytes candidate.new ≡ corrected (correction_at (polynomial locator.now.coefficients locator.now.degree) (found roots.now.at roots.now.len) (syndrome s.now)) (bytes row.now) }
+// Adds to the row the magnitude at each root.
+fn correct(row: &mut [u8], s: &[u8; 20], locator: &Locator, roots: &Roots)
+    requires at_most_255 { length row.old ≤ 255 }
+    requires values { Values (polynomial locator.now.coefficients locator.now.degree) (length row.old) roots.now.values }
+    ensures { bytes row.new ≡ corrected (correction_at (polynomial locator.now.coefficients locator.now.degree) (bytes roots.now.at.items) (syndrome s.now)) (bytes row.old) }
 {
-    for i in 0..row.len() {
-        let mut byte = row[i];
-        let value = roots.values[i];
-        if value == 0 {
-            byte ^= magnitude(s, roots, power((row.len() - 1 - i) as u8));
+    let n = row.len();
+    for (i, value) in roots.values[..n].iter().enumerate() {
+        if *value == 0 {
+            row[i] ^= magnitude(s, roots.at.as_slice(), power((n - 1 - i) as u8));
         }
-        candidate[i] = byte;
     }
 }
 
 // In how many bytes two rows differ.
 fn distance(a: &[u8], b: &[u8]) -> usize
-    requires { length a.now ≡ length b.now }
     ensures { result ≡ differing a.now b.now }
 {
-    let mut wrong = 0;
-    for i in 0..a.len() {
-        if a[i] != b[i] {
-            wrong += 1;
-        }
-    }
-    wrong
+    a.iter().zip(b).filter(|(x, y)| x != y).count()
 }
 
 // Makes the candidate the only row that can be near the row; in how many bytes it differs, where it is a code row and near.
@@ -82,8 +69,9 @@ fn search(row: &[u8], candidate: &mut [u8], left: &[u8; 20]) -> Option<u8>
 {
     let s = syndromes(left);
     let locator = locator::find(&s);
-    let roots = roots::find(&locator.coefficients, locator.degree, row.len());
-    correct(row, candidate, &s, &locator, &roots);
+    let roots = roots::find(&locator, row.len());
+    candidate.copy_from_slice(row);
+    correct(candidate, &s, &locator, &roots);
     let wrong = distance(row, candidate);
     if wrong <= MOST && is_code(candidate) {
         Some(wrong as u8)

@@ -1,23 +1,30 @@
 // The locator: a polynomial that is zero at the place of every wrong byte, where at most ten are wrong.
-ghost use Rattle.std.specs.Prelude.{◌≡◌, ℕ, ◌+◌, ◌<◌, ◌≤◌, true, false, length, bit_xor, slice_index};
-ghost use Rattle.correction.specs.Equations.{discrepancy, Solves, Monic, Eliminated, Locates};
+ghost use Rattle.std.specs.Prelude.{◌≡◌, ℕ, ◌+◌, ◌<◌, ◌≤◌, length, bit_xor, slice_index, slice_range, MatchOption};
+ghost use Rattle.correction.specs.Equations.{discrepancy, Monic, Locates};
 ghost use Rattle.galois.specs.Field.{gf_mul};
+ghost use Rattle.mender.specs.Pivots.{HasPivots};
 
 use galois::{inverse, mul};
 
 // A monic polynomial, the lowest coefficient first.
 #[derive(Drop)]
-pub struct Locator {
-    pub coefficients: [u8; 11],
-    pub degree: usize,
+pub(crate) struct Locator {
+    pub(crate) coefficients: [u8; 11],
+    pub(crate) degree: usize,
+    ghost few: { degree ≤ 10 },
+    ghost monic: { Monic degree coefficients },
 }
 
-// For each equation its pivot, a polynomial that fails it, and the inverse of the discrepancy there; 0 where there is none yet.
-#[derive(Drop)]
-struct Pivots {
-    polynomials: [[u8; 11]; 10],
-    inverses: [u8; 10],
+// A polynomial that fails an equation, and the inverse of its discrepancy there.
+#[derive(Clone, Copy)]
+struct Pivot {
+    polynomial: [u8; 11],
+    inverse: u8,
 }
+
+// For each equation its pivot, where there is one yet.
+#[derive(Drop)]
+struct Pivots([Option<Pivot>; 10]);
 
 // The polynomial X^j.
 fn monomial(j: usize) -> [u8; 11]
@@ -33,23 +40,21 @@ fn monomial(j: usize) -> [u8; 11]
 fn add_multiple(v: &mut [u8; 11], c: u8, u: &[u8; 11], m: usize)
     requires few { m ≤ 11 }
     requires zero_behind { (k : ℕ) → m ≤ k → slice_index u.now k ≡ 0 }
-    ensures long { length v.new ≡ 11 }
-    ensures entries { (k : ℕ) → k < 11 → slice_index v.new k ≡ bit_xor (slice_index v.old k) (gf_mul c (slice_index u.now k)) }
+    ensures { (k : ℕ) → k < 11 → slice_index v.new k ≡ bit_xor (slice_index v.old k) (gf_mul c (slice_index u.now k)) }
 {
-    for k in 0..m {
-        v[k] = v[k] ^ mul(c, u[k]);
+    for (k, y) in u[..m].iter().enumerate() {
+        v[k] ^= mul(c, *y);
     }
 }
 
-// What a polynomial of degree j leaves of equation i.
-fn discrepancy_of(v: &[u8; 11], s: &[u8; 20], i: usize, j: usize) -> u8
-    requires equation { i < 10 }
-    requires vector { j ≤ 10 }
-    ensures { result ≡ discrepancy (j + 1) v.now s.now i }
+// What the coefficients v leave of the equation whose syndromes s begins with.
+fn discrepancy_of(v: &[u8], s: &[u8]) -> u8
+    requires { length v.now ≤ length s.now }
+    ensures { result ≡ discrepancy (length v.now) v.now s.now 0 }
 {
     let mut sum = 0;
-    for k in 0..j + 1 {
-        sum ^= mul(s[i + k], v[k]);
+    for (syndrome, coefficient) in s.iter().zip(v) {
+        sum ^= mul(*syndrome, *coefficient);
     }
     sum
 }
@@ -65,50 +70,51 @@ pub(crate) fn inverted(a: u8) -> u8
     }
 }
 
-// Makes v, of degree j, solve one equation after another by multiples of the pivots.
-// At the first that it fails and that has no pivot, v becomes the pivot, and the answer is false.
-fn reduce(v: &mut [u8; 11], pivots: &mut Pivots, s: &[u8; 20], j: usize) -> bool
-    requires degree { j ≤ 10 }
-    requires monic { Monic j v.old }
-    requires polynomials { length pivots.old.polynomials ≡ 10 }
-    requires inverses { length pivots.old.inverses ≡ 10 }
-    requires eliminated { Eliminated 10 j s.now pivots.old.polynomials pivots.old.inverses }
-    ensures polynomials { length pivots.new.polynomials ≡ 10 }
-    ensures inverses { length pivots.new.inverses ≡ 10 }
-    ensures solved { result ≡ true → Locates 10 s.now v.new j }
-    ensures failed { result ≡ false → Eliminated 10 (j + 1) s.now pivots.new.polynomials pivots.new.inverses }
-{
-    for i in 0..10 {
-        let d = discrepancy_of(v, s, i, j);
-        if d != 0 {
-            let by = pivots.inverses[i];
-            if by == 0 {
-                pivots.polynomials[i] = *v;
-                pivots.inverses[i] = inverted(d);
-                return false;
+impl Pivots {
+    // Makes v, monic of degree j, solve one equation after another by multiples of the pivots: a locator, where it solves all.
+    // At the first that it fails and that has no pivot, v becomes the pivot.
+    fn reduce(&mut self, mut v: [u8; 11], j: usize, s: &[u8; 20]) -> Option<Locator>
+        requires degree { j ≤ 10 }
+        requires monic { Monic j v }
+        requires eliminated { HasPivots j s.now self.old.0 }
+        ensures { MatchOption result (HasPivots (j + 1) s.now self.new.0) (λ l. Locates 10 s.now l.coefficients l.degree) }
+    {
+        for i in 0..10 {
+            let d = discrepancy_of(&v[..j + 1], &s[i..]);
+            if d != 0 {
+                match &self.0[i] {
+                    Some(pivot) => add_multiple(
+                        &mut v,
+                        mul(d, pivot.inverse),
+                        &pivot.polynomial,
+                        j,
+                    ),
+                    None => {
+                        let inverse = inverted(d);
+                        self.0[i] = Some(Pivot {
+                            polynomial: v,
+                            inverse,
+                        });
+                        return None;
+                    }
+                }
             }
-            add_multiple(v, mul(d, by), &pivots.polynomials[i], j);
         }
+        Some(Locator {
+            coefficients: v,
+            degree: j,
+        })
     }
-    true
 }
 
 // A locator for the syndromes, of the lowest degree that the elimination finds.
 pub(crate) fn find(s: &[u8; 20]) -> Locator
-    ensures long { length result.coefficients ≡ 11 }
-    ensures locates { Locates 10 s.now result.coefficients result.degree }
+    ensures { Locates 10 s.now result.coefficients result.degree }
 {
-    let mut pivots = Pivots {
-        polynomials: [[0u8; 11]; 10],
-        inverses: [0u8; 10],
-    };
+    let mut pivots = Pivots([None; 10]);
     for j in 0..11 {
-        let mut v = monomial(j);
-        if reduce(&mut v, &mut pivots, s, j) {
-            return Locator {
-                coefficients: v,
-                degree: j,
-            };
+        if let Some(locator) = pivots.reduce(monomial(j), j, s) {
+            return locator;
         }
     }
     unreachable()

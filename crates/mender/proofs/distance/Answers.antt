@@ -1,24 +1,16 @@
-use Rattle.std.proofs.Common.{ℕ, ◌<◌, length, arith}
-use Rattle.correction.proofs.Corrected.{differing_same, differing_other, differing_end}
+use Rattle.std.proofs.Common.{◌≡◌, ℕ, not, ◌==◌, count_by, length, filter, ◌∙◌, rules, tests}
+use Rattle.std.specs.List.{zip}
+use Rattle.std.proofs.lemmas.Iterator.{YieldsList-from_slice, YieldsList-from_zip}
+use Rattle.std.proofs.lemmas.Iterator.Consumers.{YieldsList-at, YieldsList-from_filter, count_from_yields_List}
+use Rattle.std.proofs.lemmas.List.Sums.{length-filter}
+use Rattle.correction.proofs.Corrected.{differing_counted}
 use Rattle.mender.proofs.distance.Goals as goal
-use Rattle.mender.proofs.distance.Goals.{then-a-i, else-a-i}
-
-pub loop-i-preserved : goal.loop-i-preserved
-loop-i-preserved c =
-    let a = c.args.a.now in
-    let b = c.args.b.now in
-    let i : ℕ = c.loop-i.i in
-    let ha : i < length a = c.loop-i-test.true in
-    let hb : i < length b = let e = c.requires in omega arith in
-    let l = c.loop-i.invariant.0 in
-    let e = c.loop-i.invariant.1 in
-    elim c.if-a-i.branch [
-      | then-a-i w ↦ let q = differing_other a b i ha hb w.if-a-i.true in let n = w.wrong-is in (omega arith, omega arith)
-      | else-a-i w ↦ let q = differing_same a b i ha hb w.if-a-i.false in let n = w.wrong-is in (omega arith, omega arith)
-    ]
 
 pub returns : goal.returns
 returns c =
-    let q = differing_end c.args.a.now c.args.b.now c.loop-i.i c.loop-i-test.false in
-    let e = c.loop-i.invariant.1 in
-    omega arith
+    let a = c.args.a.now in
+    let b = c.args.b.now in
+    count_from_yields_List c.filter.result _ c.count.ensures.ran
+    (YieldsList-from_filter _ (λ (p : ℕ × ℕ). not (p.0 == p.1)) (YieldsList-at c.filter.ensures.source (YieldsList-from_zip (YieldsList-from_slice a cc) (YieldsList-from_slice b cc))) c.filter.ensures.closure
+    (λ x r q k. search (rules, tests)))
+    ∙ length-filter (λ (p : ℕ × ℕ). not (p.0 == p.1)) (zip a b) ∙ differing_counted a b

@@ -1,6 +1,6 @@
-use Rattle.std.proofs.Common.{◌≡◌}
+use Rattle.std.proofs.Common.{◌≡◌, length}
 use Rattle.correction.specs.Equations.{discrepancy}
 use Rattle.mender.proofs.locator.discrepancy_of.Given as goal
 
-abbrev pub invariant-loop-k : goal.invariant-loop-k
-invariant-loop-k l = l.sum ≡ discrepancy l.k l.v l.s l.i
+abbrev pub invariant-loop-syndrome : goal.invariant-loop-syndrome
+invariant-loop-syndrome l = l.sum ≡ discrepancy (length l.yielded) l.v l.s 0

@@ -1,66 +1,48 @@
-use Rattle.std.proofs.Common.{◌≡◌, ℕ, ◌+◌, ◌-◌, ◌<◌, List, ◌++◌, length, get_or, sym, refl, ap, ◌∙◌, append-nil, arith, length-set}
+use Rattle.std.proofs.Common.{◌≡◌, ℕ, ◌-◌, ◌<◌, List, ◌++◌, get_or, take, sym, refl, ap, ◌∙◌, append-nil, arith, rules, get_or-take}
+use Rattle.std.proofs.lemmas.List.{length-take}
 use Rattle.galois.specs.Field.{gf_power}
 use Rattle.moments.proofs.Moments as M
-use Rattle.correction.specs.Polynomials.{polynomial, roots_of, found}
-use Rattle.correction.proofs.Roots.{Found, found_start, found_hit, found_miss}
+use Rattle.rows.proofs.Bytes.{to_byte}
+use Rattle.rows.proofs.Values.{bytes}
+use Rattle.correction.specs.Polynomials.{polynomial, roots_of}
+use Rattle.correction.proofs.Roots.{found_hit, found_miss}
 use Rattle.mender.proofs.roots.find.Goals as goal
 use Rattle.mender.proofs.roots.find.Goals.{then-value-eq0, else-value-eq0}
 
--- what holds of the roots so far
-Known : List ℕ → ℕ → ℕ → ℕ → List ℕ → ℕ → Type 0
-Known v d n i at len = (length at ≡ 10) × Found v d n i at len
-
-moved : (v : List ℕ) (d n i : ℕ) (at at' : List ℕ) (len len' : ℕ) → at' ≡ at → len' ≡ len → Known v d n i at len → Known v d n i at' len'
-moved v d n i at at' len len' e f K = rw (e, f) K
-
-pub loop-i-init : goal.loop-i-init
-loop-i-init c = (refl, found_start c.args.v.now c.args.d c.args.n _)
-
-pub bounds-at-len : goal.bounds-at-len
-bounds-at-len c =
+pub push-requires : goal.push-requires
+push-requires c =
     let n : ℕ = c.args.n in
     let i : ℕ = c.loop-i.i in
-    let I = c.loop-i.invariant in
-    let hi : i < n = c.loop-i-test.true in
-    let la : length c.loop-i.at ≡ 10 = I.0 in
+    let l : List ℕ = c.all_values-values.result in
+    let L = c.args.locator.now in
+    let few = L.few in
+    let hi : i < n = omega (arith, length-take n l) in
     let room =
-    (found_hit c.args.v.now c.args.d n i (get_or c.all_values-values.result i 0) hi (c.all_values-values.ensures.are i hi) c.loop-i.at c.loop-i.len (gf_power 2 (n - 1 - i)) (omega arith)
-    c.requires.places (omega arith) refl c.requires.monic c.if-value-eq0.true I.1).0 in
-    omega arith
+    (found_hit L.coefficients L.degree n i (get_or (take n l) i 0) hi (c.all_values-values.ensures i hi ∙ ap to_byte (sym (get_or-take n l i 0 hi))) c.loop-i.at.items (gf_power 2 (n - 1 - i)) (omega arith)
+    c.requires.places refl L.monic c.if-value-eq0.true c.loop-i.invariant).0 in
+    (search rules, omega arith)
 
 pub loop-i-preserved : goal.loop-i-preserved
-unfolding Known
 loop-i-preserved c =
-    let v : List ℕ = c.args.v.now in
-    let d : ℕ = c.args.d in
     let n : ℕ = c.args.n in
     let i : ℕ = c.loop-i.i in
-    let y : ℕ = get_or c.all_values-values.result i 0 in
-    let at : List ℕ = c.loop-i.at in
-    let len : ℕ = c.loop-i.len in
-    let I = c.loop-i.invariant in
-    let hi : i < n = c.loop-i-test.true in
-    let la : length at ≡ 10 = I.0 in
-    let there = c.all_values-values.ensures.are i hi in
+    let l : List ℕ = c.all_values-values.result in
+    let L = c.args.locator.now in
+    let few = L.few in
+    let y : ℕ = get_or (take n l) i 0 in
+    let hi : i < n = omega (arith, length-take n l) in
+    let there = c.all_values-values.ensures i hi ∙ ap to_byte (sym (get_or-take n l i 0 hi)) in
     elim c.if-value-eq0.branch [
       | then-value-eq0 w ↦
-          moved v d n (i + 1) _ _ _ _ w.at-is w.len-is (
-            length-set at len w.power.result ∙ la,
-            (found_hit v d n i y hi there at len w.power.result (omega arith) c.requires.places (omega arith) w.power.ensures c.requires.monic w.if-value-eq0.true I.1).1,
-          )
-      | else-value-eq0 w ↦ moved v d n (i + 1) _ _ _ _ w.at-is w.len-is (la, found_miss v d n i y hi there at len w.if-value-eq0.false (omega arith) I.1)
+          rw (w.at-is, w.push.ensures.items)
+          (found_hit L.coefficients L.degree n i y hi there c.loop-i.at.items w.power.result (omega arith) c.requires.places w.power.ensures L.monic w.if-value-eq0.true c.loop-i.invariant).1
+      | else-value-eq0 w ↦ rw w.at-is (found_miss L.coefficients L.degree n i y hi there c.loop-i.at.items w.if-value-eq0.false (omega arith) c.loop-i.invariant)
     ]
 
-pub returns : goal.returns
+pub returns-clause-are : goal.returns-clause-are
 unfolding M.roots
-returns c =
-    let cs = polynomial c.args.v.now c.args.d in
-    let I = c.loop-i.invariant in
-    let e : c.args.n - c.loop-i.i ≡ 0 = omega arith in
-    record {
-      long = I.0;
-      few = I.1.few;
-      are = sym (append-nil (found c.loop-i.at c.loop-i.len)) ∙ ap (λ (k : ℕ). found c.loop-i.at c.loop-i.len ++ roots_of cs k) (sym e) ∙ I.1.are;
-      size = c.all_values-values.ensures.long;
-      values = c.all_values-values.ensures.are;
-    }
+returns-clause-are c =
+    let cs = polynomial c.args.locator.now.coefficients c.args.locator.now.degree in
+    let at = c.loop-i.at.items in
+    let e : c.args.n - c.loop-i.i ≡ 0 = omega (arith, length-take c.args.n c.all_values-values.result) in
+    sym (append-nil (bytes at)) ∙ ap (λ (k : ℕ). bytes at ++ roots_of cs k) (sym e) ∙ c.loop-i.invariant.are
