@@ -1,5 +1,5 @@
 -- The elimination: a monic polynomial is made to solve one equation more by a multiple of the pivot there, or becomes the pivot.
-use Rattle.std.proofs.Common.{◌≡◌, ℕ, zero, suc, ◌+◌, ◌<◌, ◌≤◌, cond, List, [], length, get_or, set, replicate, Option, Some, None, is_some, count_by, refl, sym, ap, mul-zero, ◌∙◌, arith, length-set, get_or-set_other, get_or-set_same}
+use Rattle.std.proofs.Common.{◌≡◌, ℕ, zero, suc, ◌+◌, ◌<◌, ◌≤◌, cond, List, length, get_or, set, replicate, Option, Some, None, is_some, count_by, refl, sym, ap, mul-zero, ◌∙◌, arith, length-set, get_or-set_other, get_or-set_same}
 use native.Mathlib.Decide.{ℕ_discrete, dec_lt}
 use lib.Bits.{bit_xor, xor_zero_r}
 use Rattle.std.proofs.lemmas.List.{get_or_past, length-replicate}

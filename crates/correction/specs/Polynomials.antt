@@ -20,10 +20,6 @@ value_of = M.eval Byte add mul nil one laws
 abbrev pub roots_of : List Byte → ℕ → List Byte
 roots_of = M.roots Byte add mul nil one laws (to_byte 2)
 
--- the first m of the roots that were found
-abbrev pub found : List ℕ → ℕ → List Byte
-found at m = bytes (take m at)
-
 -- the roots without x
 abbrev pub others : Byte → List Byte → List Byte
 others = M.but Byte add mul nil one laws

@@ -91,8 +91,9 @@ pub fn mend(row: &mut [u8]) -> Result<Mending, Refusal>
         return Ok(Mending::Clean);
     }
     let n = row.len();
+    // Memory for the longest row: there is no heap.
     let mut space = [0u8; 255];
-    let candidate = &mut space[0..n];
+    let candidate = &mut space[..n];
     match search(row, candidate, &left) {
         Some(wrong) => {
             row.copy_from_slice(candidate);

@@ -79,10 +79,10 @@ impl Pivots {
         requires eliminated { HasPivots j s.now self.old.0 }
         ensures { MatchOption result (HasPivots (j + 1) s.now self.new.0) (λ l. Locates 10 s.now l.coefficients l.degree) }
     {
-        for i in 0..10 {
+        for (i, pivot) in self.0.iter().enumerate() {
             let d = discrepancy_of(&v[..j + 1], &s[i..]);
             if d != 0 {
-                match &self.0[i] {
+                match pivot {
                     Some(pivot) => add_multiple(
                         &mut v,
                         mul(d, pivot.inverse),

@@ -11,7 +11,7 @@ use arrayvec::ArrayVec;
 use galois::{power, scaled};
 use std::array;
 
-// The roots, as powers of 2, and the polynomial's value at the place of each byte of the row.
+// The roots, as powers of 2, and the locator's value at the place of each byte of the row, in memory for the longest one: there is no heap.
 #[derive(Drop)]
 pub(crate) struct Roots {
     pub(crate) at: ArrayVec<u8, 10>,
@@ -33,7 +33,7 @@ fn next_values(e: &mut [u8; 11], d: usize) -> [u8; 4]
     ensures are { (j : ℕ) → j < d + 1 → slice_index e.new j ≡ gf_mul (slice_index e.old j) (gf_power 2 (255 - 4 * j)) }
 {
     let [mut one, mut two, mut three, mut four] = [0u8; 4];
-    // By index: what is written through an adapter of iter_mut is not known to the check, and a second array costs time.
+    // By index: what is written through an adapter of iter_mut is not known to the check, and a second array for the terms costs time.
     for j in 0..d + 1 {
         let term = e[j];
         let last = scaled(term, (255 - 4 * j) as u8);
@@ -53,6 +53,7 @@ fn all_values(locator: &Locator, n: usize) -> [u8; 256]
 {
     let mut all = [0u8; 256];
     let mut e = terms(locator, n);
+    // By number of the block: what is written through chunks_exact_mut is not known to the check.
     for block in 0..n.div_ceil(4) {
         let i = 4 * block;
         all[i..i + 4].copy_from_slice(&next_values(&mut e, locator.degree));

@@ -1,6 +1,6 @@
 use Rattle.std.proofs.Common.{ℕ, ◌≢◌, ap, ◌∙◌, arith}
 use Rattle.rows.proofs.Bytes.{to_byte}
-use Rattle.correction.proofs.Magnitudes.{TakenOut, taken_start, taken_over, taken_more, taken_ne, taken_all}
+use Rattle.correction.proofs.Magnitudes.{taken_start, taken_over, taken_more, taken_ne, taken_all}
 use Rattle.mender.proofs.magnitude.magnitude.Goals as goal
 use Rattle.mender.proofs.magnitude.magnitude.Goals.{then-r-x, else-r-x}
 

@@ -1,4 +1,4 @@
-use Rattle.std.proofs.Common.{ℕ, ◌*◌, ◌%◌, get_or, rules, tests}
+use Rattle.std.proofs.Common.{◌*◌, ◌%◌, get_or, rules, tests}
 use Rattle.galois.specs.Field.{gf_mul, gf_power}
 use Rattle.mender.proofs.Filled.{filled}
 use Rattle.mender.proofs.roots.terms.Goals as goal
