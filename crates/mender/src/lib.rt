@@ -39,6 +39,8 @@ pub enum Mending {
 }
 
 // Adds to the row the magnitude at each root.
+// It is compiled apart: inlined into the search, its loops run slower.
+#[inline(never)]
 fn correct(row: &mut [u8], s: &[u8; 20], locator: &Locator, roots: &Roots)
     requires at_most_255 { length row.old ≤ 255 }
     requires values { Values (polynomial locator.now.coefficients locator.now.degree) (length row.old) roots.now.values }
