@@ -1,38 +1,17 @@
 -- The elimination: a monic polynomial is made to solve one equation more by a multiple of the pivot there, or becomes the pivot.
-use Rattle.std.proofs.Common.{◌≡◌, ℕ, zero, suc, ◌+◌, ◌<◌, ◌≤◌, cond, List, length, get_or, set, replicate, Option, Some, None, is_some, count_by, refl, sym, ap, mul-zero, ◌∙◌, arith, length-set, get_or-set_other, get_or-set_same}
+use Rattle.std.proofs.Common.{◌≡◌, ℕ, ◌+◌, ◌<◌, ◌≤◌, cond, List, length, get_or, set, Option, Some, None, is_some, count_by, sym, ap, ◌∙◌, arith, length-set, get_or-set_other, get_or-set_same}
 use native.Mathlib.Decide.{ℕ_discrete, dec_lt}
 use lib.Bits.{bit_xor, xor_zero_r}
-use Rattle.std.proofs.lemmas.List.{get_or_past, length-replicate}
-use Rattle.std.proofs.lemmas.List.Folds.{sum_by-replicate}
-use Rattle.std.proofs.lemmas.List.Sums.{count_by-le-length, sum_by-set}
+use Rattle.std.proofs.lemmas.List.{get_or_past}
+use Rattle.std.proofs.lemmas.List.Sums.{sum_by-set}
 use Rattle.galois.specs.Field.{gf_mul}
 use Rattle.galois.proofs.Laws.{mul_zero_right}
 use Rattle.rows.specs.Code.{Bytes}
 use Rattle.correction.specs.Equations.{discrepancy, Solves, Monic, IsPivot, Eliminated, Locates}
 use Rattle.correction.proofs.Discrepancies.{discrepancy_short, plus_solves, plus_clears}
 
--- no equation has a pivot
-nowhere : (P : Type 0) (t i : ℕ) → get_or (replicate {A = Option P} t None) i None ≡ None
-nowhere P zero i = refl
-nowhere P (suc t) zero = refl
-nowhere P (suc t) (suc i) = nowhere P t i
-
 solves_more : (m : ℕ) (v s : List ℕ) (i : ℕ) → Solves m v s i → discrepancy m v s i ≡ 0 → Solves m v s (i + 1)
 solves_more m v s i S d k h = elim (ℕ_discrete k i) [ yes e ↦ rw e d | no e ↦ S k (omega arith) ]
-
-module _ {P : Type 0} (polynomial : P → List ℕ) (inverse : P → ℕ) (t : ℕ) (s : List ℕ) where
-  -- there is no pivot yet
-  pub eliminated_none : Eliminated polynomial inverse t 0 s (replicate t None)
-  eliminated_none =
-      record {
-        long = length-replicate t None;
-        each = λ i p e. let z = nowhere P t i in cc;
-        count = sum_by-replicate (λ (o : Option P). cond (is_some o) 1 0) t None ∙ mul-zero t;
-      }
-
-  -- there are no more pivots than equations
-  pub eliminated_few : (j : ℕ) (pivots : List (Option P)) → Eliminated polynomial inverse t j s pivots → j ≤ t
-  eliminated_few j pivots E = let n = count_by-le-length is_some pivots in let c = E.count in let l = E.long in omega arith
 
 -- the monic polynomial v of degree j solves the first i equations
 pub record Reduced {P : Type 0} (polynomial : P → List ℕ) (inverse : P → ℕ) (t j i : ℕ) (s v : List ℕ) (pivots : List (Option P)) : Type 0 where

@@ -11,7 +11,7 @@ use Rattle.rows.proofs.Ring.{mul_one}
 use Rattle.rows.proofs.Unique.{places_distinct}
 use Rattle.rows.proofs.Values.{bytes, power, place, length_bytes, to_byte_power, power_add}
 use Rattle.correction.specs.Equations.{Monic, sum_on}
-use Rattle.correction.specs.Polynomials.{entry, polynomial, value_of, roots_of}
+use Rattle.correction.specs.Polynomials.{entry, polynomial, value_of, roots_of, Values}
 use Rattle.correction.proofs.Syndromes.{polynomial_length, polynomial_at}
 
 pub one_nil : one ≢ nil
@@ -100,6 +100,10 @@ values_more v d n i m l r h old new k b =
           rw (e, there) (new j (omega arith))
     ]
 
+-- a value among the first n alone
+pub values_taken : (cs : List Byte) (n : ℕ) (l : List ℕ) (i : ℕ) → Values cs n l → i < n → value_of cs (place (n - 1 - i)) ≡ to_byte (get_or (take n l) i 0)
+values_taken cs n l i V h = V i h ∙ ap to_byte (sym (get_or-take n l i 0 h))
+
 -- ---- a locator of degree d has at most d roots
 nils_at : (cs : List Byte) → M.Nils Byte add mul nil one laws cs → (j : ℕ) → get_or cs j nil ≡ nil
 nils_at [] n j = refl
@@ -118,9 +122,6 @@ few_roots v d n long h w =
 pub record Found (v : List ℕ) (d n i : ℕ) (at : List ℕ) : Type 0 where
   pub few : length at ≤ d
   pub are : bytes at ++ roots_of (polynomial v d) (n - i) ≡ roots_of (polynomial v d) n
-
-pub found_start : (v : List ℕ) (d n : ℕ) → Found v d n 0 []
-found_start v d n = record { few = omega arith; are = let e : n - 0 ≡ n = omega arith in ap (roots_of (polynomial v d)) e }
 
 module _ (v : List ℕ) (d n i : ℕ) (y : ℕ) (hi : i < n) (there : value_of (polynomial v d) (place (n - 1 - i)) ≡ to_byte y) where
   -- one place more is a root

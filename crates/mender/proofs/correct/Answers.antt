@@ -1,9 +1,10 @@
-use Rattle.std.proofs.Common.{◌≡◌, ℕ, ◌-◌, ◌<◌, List, length, get_or, take, sym, ap, ◌∙◌, arith, lit<, get_or-take}
+use Rattle.std.proofs.Common.{◌≡◌, ℕ, ◌-◌, ◌<◌, List, length, get_or, take, sym, ap, ◌∙◌, arith, lit<}
 use Rattle.moments.proofs.Moments as M
 use Rattle.rows.proofs.Bytes.{Byte, to_byte, add, mul, nil, one, laws, to_byte_eq}
 use Rattle.rows.proofs.Values.{bytes, place, to_byte_power}
 use Rattle.correction.specs.Polynomials.{entry, polynomial, value_of, magnitude_at, correction_at}
 use Rattle.correction.proofs.Corrected.{corrected_entries, corrected_kept, corrected_added}
+use Rattle.correction.proofs.Roots.{values_taken}
 use Rattle.mender.proofs.correct.Goals as goal
 use Rattle.mender.proofs.correct.Goals.{then-value-eq0, else-value-eq0}
 
@@ -17,7 +18,7 @@ loop-i-preserved c =
     let m : ℕ = length row - 1 - i in
     let y : ℕ = get_or (take (length row) c.args.roots.now.values) i 0 in
     let hi : i < length row = omega arith in
-    let here : value_of cs (place m) ≡ to_byte y = c.requires.values i hi ∙ ap to_byte (sym (get_or-take (length row) c.args.roots.now.values i 0 hi)) in
+    let here : value_of cs (place m) ≡ to_byte y = values_taken cs (length row) c.args.roots.now.values i c.requires.values hi in
     elim c.if-value-eq0.branch [
       | then-value-eq0 w ↦
           rw w.row-is

@@ -8,13 +8,6 @@ use Rattle.correction.proofs.Corrected.{near_is_corrected}
 use Rattle.mender.proofs.search.Goals as goal
 use Rattle.mender.proofs.search.Goals.{else-wrong-le-MOST-via-then-wrong-le-MOST+else-is_code, else-wrong-le-MOST-via-else-wrong-le-MOST}
 
-pub returns-then-is_code : goal.returns-then-is_code
-returns-then-is_code c =
-    let out : List ℕ = c.correct.new.row in
-    let bo : Bytes out = search rules in
-    let near : differing c.args.row.now out ≤ 10 = let e = c.distance-wrong.ensures in omega arith in
-    (record { long = omega arith; byte = bo; code = (c.is_code.ensures.0 c.if-is_code.true).code; near = near }, sym c.distance-wrong.ensures)
-
 pub returns-else-wrong-le-MOST : goal.returns-else-wrong-le-MOST
 returns-else-wrong-le-MOST c near N =
     let row : List ℕ = c.args.row.now in
