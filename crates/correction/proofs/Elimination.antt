@@ -2,6 +2,7 @@
 use Rattle.std.proofs.Common.{◌≡◌, ℕ, ◌+◌, ◌<◌, ◌≤◌, cond, List, length, get_or, set, Option, Some, None, is_some, count_by, sym, ap, ◌∙◌, arith, length-set, get_or-set_other, get_or-set_same}
 use native.Mathlib.Decide.{ℕ_discrete, dec_lt}
 use lib.Bits.{bit_xor, xor_zero_r}
+use borrow.Author.Count.{below_more}
 use Rattle.std.proofs.lemmas.List.{get_or_past}
 use Rattle.std.proofs.lemmas.List.Sums.{sum_by-set}
 use Rattle.galois.specs.Field.{gf_mul}
@@ -9,9 +10,6 @@ use Rattle.galois.proofs.Laws.{mul_zero_right}
 use Rattle.rows.specs.Code.{Bytes}
 use Rattle.correction.specs.Equations.{discrepancy, Solves, Monic, IsPivot, Eliminated, Locates}
 use Rattle.correction.proofs.Discrepancies.{discrepancy_short, plus_solves, plus_clears}
-
-solves_more : (m : ℕ) (v s : List ℕ) (i : ℕ) → Solves m v s i → discrepancy m v s i ≡ 0 → Solves m v s (i + 1)
-solves_more m v s i S d k h = elim (ℕ_discrete k i) [ yes e ↦ rw e d | no e ↦ S k (omega arith) ]
 
 -- the monic polynomial v of degree j solves the first i equations
 pub record Reduced {P : Type 0} (polynomial : P → List ℕ) (inverse : P → ℕ) (t j i : ℕ) (s v : List ℕ) (pivots : List (Option P)) : Type 0 where
@@ -26,7 +24,7 @@ module _ {P : Type 0} {polynomial : P → List ℕ} {inverse : P → ℕ} {t j i
 
   -- it solves the next equation as it is
   pub reduced_kept : discrepancy (j + 1) v s i ≡ 0 → Reduced polynomial inverse t j (i + 1) s v pivots
-  reduced_kept e = record { long = R.long; monic = R.monic; solves = solves_more (t + 1) v s i R.solves (short ∙ e); before = R.before }
+  reduced_kept e = record { long = R.long; monic = R.monic; solves = below_more (λ k. discrepancy (t + 1) v s k ≡ 0) i R.solves (short ∙ e); before = R.before }
 
   -- it solves the next equation with a multiple of the pivot there
   pub reduced_plus : Bytes s → (p : P) → get_or pivots i None ≡ Some p → (c : ℕ) (w : List ℕ) → c ≡ gf_mul (discrepancy (j + 1) v s i) (inverse p) → length w ≡ t + 1
@@ -36,7 +34,7 @@ module _ {P : Type 0} {polynomial : P → List ℕ} {inverse : P → ℕ} {t j i
         long = l;
         monic = (same j (omega arith) (omega arith) ∙ R.monic.0, λ k q. elim (dec_lt k (t + 1)) [ yes y ↦ same k (omega arith) y ∙ R.monic.1 k q | no y ↦ get_or_past w k 0 (omega arith) ]);
         solves =
-            solves_more (t + 1) w s i (λ k q. plus_solves (t + 1) s w v (polynomial p) c ew b k (R.solves k q) (I.solves k q))
+            below_more (λ k. discrepancy (t + 1) w s k ≡ 0) i (λ k q. plus_solves (t + 1) s w v (polynomial p) c ew b k (R.solves k q) (I.solves k q))
             (plus_clears (t + 1) s w v (polynomial p) c ew b i (inverse p) (ec ∙ ap (λ (x : ℕ). gf_mul x (inverse p)) (sym short)) I.fails);
         before = R.before;
       }

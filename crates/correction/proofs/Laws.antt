@@ -1,6 +1,7 @@
 -- At most one code row is near a row, with marks and without.
 use Rattle.std.proofs.Common.{◌≡◌, ℕ, suc, ◌+◌, ◌≤◌, Bool, true, false, cond, T, eqb, List, [], ◌∷◌, map, length, sym, refl, ap, ◌∙◌, zero-le, arith, eqb→eq}
 use lib.Dec.{eqb_refl}
+use lib.ListN.{length-map}
 use Rattle.rows.specs.Code.{differing}
 use Rattle.rows.proofs.Unique.{code_rows_equal}
 use Rattle.correction.specs.Near.{Near, marked, differing_unmarked, NearMarked, NearLaws}
@@ -46,8 +47,7 @@ unmarked = map (λ _. false)
 
 unmarked_length : (row : List ℕ) → length (unmarked row) ≡ length row
 unfolding unmarked
-unmarked_length [] = refl
-unmarked_length (x ∷ xs) = ap suc (unmarked_length xs)
+unmarked_length row = length-map row (λ _. false)
 
 unmarked_none : (row : List ℕ) → marked (unmarked row) ≡ 0
 unfolding unmarked

@@ -9,8 +9,8 @@ pub returns : goal.returns
 returns c k h =
     let x : ℕ = get_or c.args.v.now k 0 in
     elim (dec_lt k c.loop-k.k) [
-      | yes q ↦ c.loop-k.invariant.0 k q
+      | yes q ↦ c.loop-k.invariant.done k q
       | no q ↦
-          c.loop-k.invariant.1 k (omega arith)
+          c.loop-k.invariant.left k (omega arith)
           ∙ sym (ap (λ (y : ℕ). bit_xor x (gf_mul c.args.c y)) (c.requires.zero_behind k (omega arith)) ∙ ap (bit_xor x) (mul_zero_right c.args.c) ∙ xor_zero_r x)
     ]

@@ -4,4 +4,7 @@ use Rattle.galois.specs.Field.{gf_mul}
 use Rattle.mender.proofs.magnitude.take_out.Given as goal
 
 abbrev pub invariant-loop-k : goal.invariant-loop-k
-invariant-loop-k l = ((k : ℕ) → k < l.k → get_or l.w k 0 ≡ bit_xor (get_or l.initial.w (k + 1) 0) (gf_mul l.r (get_or l.initial.w k 0))) × ((k : ℕ) → l.k ≤ k → get_or l.w k 0 ≡ get_or l.initial.w k 0)
+invariant-loop-k l = record {
+  done : (k : ℕ) → k < l.k → get_or l.w k 0 ≡ bit_xor (get_or l.initial.w (k + 1) 0) (gf_mul l.r (get_or l.initial.w k 0));
+  left : (k : ℕ) → l.k ≤ k → get_or l.w k 0 ≡ get_or l.initial.w k 0;
+}
