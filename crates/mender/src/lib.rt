@@ -7,7 +7,6 @@ mod roots;
 mod syndromes;
 
 ghost use Rattle.std.specs.Prelude.{◌≡◌, ◌<◌, ◌≤◌, length, MatchResult};
-ghost use Rattle.correction.specs.Equations.{Locates};
 ghost use Rattle.correction.specs.Near.{NearLaws};
 ghost use Rattle.correction.specs.Polynomials.{entry as syndrome, polynomial, correction_at, corrected, Values};
 ghost use Rattle.mender.specs.Mended.{Mended, accepted, Searched};

@@ -1,5 +1,5 @@
 // The locator: a polynomial that is zero at the place of every wrong byte, where at most ten are wrong.
-ghost use Rattle.std.specs.Prelude.{◌≡◌, ℕ, ◌+◌, ◌<◌, ◌≤◌, length, bit_xor, slice_index, slice_range, MatchOption};
+ghost use Rattle.std.specs.Prelude.{◌≡◌, ℕ, ◌+◌, ◌<◌, ◌≤◌, length, bit_xor, slice_index, MatchOption};
 ghost use Rattle.correction.specs.Equations.{discrepancy, Monic, Locates};
 ghost use Rattle.galois.specs.Field.{gf_mul};
 ghost use Rattle.mender.specs.Pivots.{HasPivots};

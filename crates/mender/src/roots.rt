@@ -1,6 +1,5 @@
 // The roots of a locator among the places of a row.
 ghost use Rattle.std.specs.Prelude.{◌≡◌, ℕ, ◌+◌, ◌-◌, ◌*◌, ◌%◌, ◌<◌, ◌≤◌, slice_index};
-ghost use Rattle.arrayvec.specs.ArrayVec.{array_vec_len};
 ghost use Rattle.correction.specs.Equations.{sum_on};
 ghost use Rattle.correction.specs.Polynomials.{polynomial, roots_of, Values};
 ghost use Rattle.galois.specs.Field.{gf_mul, gf_power};
