@@ -27,13 +27,16 @@ struct Pivot {
 struct Pivots([Option<Pivot>; 10]);
 
 // The polynomial X^j.
-fn monomial(j: usize) -> [u8; 11]
-    requires { j < 11 }
-    ensures { Monic j result }
+fn monomial(j: usize) -> Locator
+    requires { j ≤ 10 }
+    ensures { result.degree ≡ j }
 {
-    let mut v = [0u8; 11];
-    v[j] = 1;
-    v
+    let mut coefficients = [0u8; 11];
+    coefficients[j] = 1;
+    Locator {
+        coefficients,
+        degree: j,
+    }
 }
 
 // Adds c times u to v, where the coefficients of u from m on are 0.
@@ -71,28 +74,30 @@ pub(crate) fn inverted(a: u8) -> u8
 }
 
 impl Pivots {
-    // Makes v, monic of degree j, solve one equation after another by multiples of the pivots: a locator, where it solves all.
+    // Makes v solve one equation after another by multiples of the pivots; it is a locator where it solves all.
     // At the first that it fails and that has no pivot, v becomes the pivot.
-    fn reduce(&mut self, mut v: [u8; 11], j: usize, s: &[u8; 20]) -> Option<Locator>
-        requires degree { j ≤ 10 }
-        requires monic { Monic j v }
-        requires eliminated { HasPivots j s.now self.old.0 }
-        ensures { MatchOption result (HasPivots (j + 1) s.now self.new.0) (λ l. Locates 10 s.now l.coefficients l.degree) }
+    fn reduce(&mut self, v: Locator, s: &[u8; 20]) -> Option<Locator>
+        requires { HasPivots v.degree s.now self.old.0 }
+        ensures { MatchOption result (HasPivots (v.degree + 1) s.now self.new.0) (λ l. Locates 10 s.now l.coefficients l.degree) }
     {
+        let Locator {
+            mut coefficients,
+            degree,
+        } = v;
         for (i, pivot) in self.0.iter().enumerate() {
-            let d = discrepancy_of(&v[..j + 1], &s[i..]);
+            let d = discrepancy_of(&coefficients[..degree + 1], &s[i..]);
             if d != 0 {
                 match pivot {
                     Some(pivot) => add_multiple(
-                        &mut v,
+                        &mut coefficients,
                         mul(d, pivot.inverse),
                         &pivot.polynomial,
-                        j,
+                        degree,
                     ),
                     None => {
                         let inverse = inverted(d);
                         self.0[i] = Some(Pivot {
-                            polynomial: v,
+                            polynomial: coefficients,
                             inverse,
                         });
                         return None;
@@ -101,8 +106,8 @@ impl Pivots {
             }
         }
         Some(Locator {
-            coefficients: v,
-            degree: j,
+            coefficients,
+            degree,
         })
     }
 }
@@ -113,7 +118,7 @@ pub(crate) fn find(s: &[u8; 20]) -> Locator
 {
     let mut pivots = Pivots([None; 10]);
     for j in 0..11 {
-        if let Some(locator) = pivots.reduce(monomial(j), j, s) {
+        if let Some(locator) = pivots.reduce(monomial(j), s) {
             return locator;
         }
     }
