@@ -1,32 +1,63 @@
-// Reads recorded test vectors: bytes written as hexadecimal digits.
+// Recorded test vectors: bytes written as hexadecimal digits, and lines that are compared one by one.
 #![tactic(auto)]
 
 ghost use Rattle.std.specs.Prelude.{◌≡◌};
 ghost use Rattle.vectors.specs.Hex.{digit_value, pair_value, Read};
+ghost use Rattle.vectors.specs.declared.VectorError.TheVariants.{Malformed, NoMemory};
 
-use std::alloc::Global;
+mod lines;
+mod tally;
+
+pub use lines::{BadLine, cannot_read, compare, report};
+use std::alloc::{AllocError, AllocFailed, Global};
 use std::error::Error;
 use std::fmt;
+use std::num::ParseIntError;
+pub use tally::Tally;
 
 // Why a word of a vector could not be read.
-#[derive(PartialEq, Eq, Debug, Drop)]
+#[derive(Clone, Copy, PartialEq, Eq, Debug)]
 pub enum VectorError {
-    // It is no even number of the digits 0 to 9 and a to f.
+    // It is no number, or no even number of the digits 0 to 9 and a to f.
     Malformed,
-    // There was no memory for its bytes.
+    // There was no memory for its bytes, or for the words of a line.
     NoMemory,
 }
 
 impl fmt::Display for VectorError {
     fn fmt<W: fmt::Write>(&self, f: &mut fmt::Formatter<W>) -> fmt::Result {
-        match self {
-            VectorError::Malformed => write!(f, "malformed vector"),
-            VectorError::NoMemory => write!(f, "no memory for a vector"),
-        }
+        f.write_str(match self {
+            VectorError::Malformed => "malformed vector",
+            VectorError::NoMemory => "no memory for a vector",
+        })
     }
 }
 
 impl Error for VectorError {}
+
+impl From<AllocError> for VectorError {
+    ghost from_gives = { λ _ e. e ≡ NoMemory };
+
+    fn from(_e: AllocError) -> VectorError {
+        VectorError::NoMemory
+    }
+}
+
+impl<T: Drop> From<AllocFailed<T>> for VectorError {
+    ghost from_gives = { λ _ e. e ≡ NoMemory };
+
+    fn from(_e: AllocFailed<T>) -> VectorError {
+        VectorError::NoMemory
+    }
+}
+
+impl From<ParseIntError> for VectorError {
+    ghost from_gives = { λ _ e. e ≡ Malformed };
+
+    fn from(_e: ParseIntError) -> VectorError {
+        VectorError::Malformed
+    }
+}
 
 // The value of a hexadecimal digit.
 fn digit(c: u8) -> Option<u8>
@@ -40,30 +71,22 @@ fn digit(c: u8) -> Option<u8>
 }
 
 // The byte of two digits, the higher first.
-fn pair(high: u8, low: u8) -> Option<u8>
+pub fn pair(high: u8, low: u8) -> Option<u8>
     ensures { result ≡ pair_value high low }
 {
-    match (digit(high), digit(low)) {
-        (Some(h), Some(l)) => Some(16 * h + l),
-        _ => None,
-    }
+    Some(16 * digit(high)? + digit(low)?)
 }
 
 // The bytes that the digits stand for, two digits to a byte.
-pub fn bytes(heap: Global, digits: &[u8]) -> Result<Vec<u8>, VectorError>
+pub fn bytes(alloc: Global, digits: &[u8]) -> Result<Vec<u8>, VectorError>
     ensures { Read digits.now result }
 {
-    if digits.len() % 2 != 0 {
+    let (pairs, []) = digits.as_chunks::<2>() else {
         return Err(VectorError::Malformed);
-    }
-    let mut out = Vec::new(heap);
-    for i in 0..digits.len() / 2 {
-        let Some(byte) = pair(digits[2 * i], digits[2 * i + 1]) else {
-            return Err(VectorError::Malformed);
-        };
-        if out.push(byte).is_err() {
-            return Err(VectorError::NoMemory);
-        }
+    };
+    let mut out = Vec::new(alloc);
+    for [high, low] in pairs {
+        out.push(pair(*high, *low).ok_or(VectorError::Malformed)?)?;
     }
     Ok(out)
 }

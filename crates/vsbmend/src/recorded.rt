@@ -1,43 +1,57 @@
 // A line of the recorded rows: length, result, wrong bytes, received row and code row, with a space between.
-use anyhow::anyhow;
-use mender::Mending;
+use anyhow::{anyhow, bail, ensure};
+use mender::{Mending, mend};
 use std::alloc::Global;
+use vectors::{VectorError, bytes};
 
 // What mending has to answer, the received row, and the row afterwards.
 #[derive(Drop)]
-pub struct Recorded {
-    pub mending: Mending,
-    pub received: Vec<u8>,
-    pub after: Vec<u8>,
+pub(crate) struct Recorded {
+    mending: Mending,
+    received: Vec<u8>,
+    after: Vec<u8>,
 }
 
-// The value of a hexadecimal digit.
-fn digit(c: u8) -> Option<u8> {
-    match c {
-        b'0'..=b'9' => Some(c - b'0'),
-        b'a'..=b'f' => Some(c - b'a' + 10),
-        _ => None,
+impl Recorded {
+    // Reads a line; where the code row is a dash, the received row has to stay.
+    pub(crate) fn read(alloc: Global, line: &str) -> anyhow::Result<Recorded> {
+        let words: Vec<&str> = line.split(' ').collect(alloc)?;
+        let [length, outcome, wrong, row, code] = words.as_slice() else {
+            bail!("a line has not five parts");
+        };
+        let received = row_bytes(alloc, row)?;
+        ensure!(length.parse::<usize>()? == received.len(), "a row has another length");
+        let after = row_bytes(alloc, if *code == "-" { row } else { code })?;
+        Ok(Recorded {
+            mending: mending(outcome, wrong)?,
+            received,
+            after,
+        })
+    }
+
+    // Whether the row is mended as recorded: result, number of wrong bytes and every byte.
+    pub(crate) fn agrees(self) -> bool {
+        let Recorded {
+            mending,
+            received,
+            after,
+        } = self;
+        let mut row = received;
+        mend(row.as_mut_slice()) == Ok(mending) && row == after
     }
 }
 
-// The bytes that hexadecimal digits stand for.
-fn bytes(heap: Global, text: &str) -> anyhow::Result<Vec<u8>> {
-    let digits = text.as_bytes();
-    if digits.len() % 2 != 0 {
-        return Err(anyhow!("a row has an odd number of digits"));
-    }
-    let mut row = Vec::new(heap);
-    for i in 0..digits.len() / 2 {
-        match (digit(digits[2 * i]), digit(digits[2 * i + 1])) {
-            (Some(high), Some(low)) => row.push(high << 4 | low)?,
-            _ => return Err(anyhow!("a row has something else than hexadecimal digits")),
-        }
-    }
-    Ok(row)
+// The bytes of a row.
+fn row_bytes(alloc: Global, digits: &str) -> anyhow::Result<Vec<u8>> {
+    ensure!(digits.len() % 2 == 0, "a row has an odd number of digits");
+    bytes(alloc, digits.as_bytes()).map_err(|why| match why {
+        VectorError::Malformed => anyhow!("a row has something else than hexadecimal digits"),
+        VectorError::NoMemory => anyhow!(why),
+    })
 }
 
 // The answer that a result and a number of wrong bytes stand for.
-fn answer(outcome: &str, wrong: &str) -> anyhow::Result<Mending> {
+fn mending(outcome: &str, wrong: &str) -> anyhow::Result<Mending> {
     let wrong = wrong.parse::<u8>()?;
     match (outcome, wrong) {
         ("clean", 0) => Ok(Mending::Clean),
@@ -45,29 +59,4 @@ fn answer(outcome: &str, wrong: &str) -> anyhow::Result<Mending> {
         ("spoiled", 0) => Ok(Mending::Spoiled),
         _ => Err(anyhow!("no such result")),
     }
-}
-
-// Reads a line; where the code row is a dash, the received row has to stay.
-pub fn read(heap: Global, line: &str) -> anyhow::Result<Recorded> {
-    let mut parts = line.split(' ');
-    let (Some(long), Some(result), Some(wrong), Some(row), Some(code), None) = (
-        parts.next(),
-        parts.next(),
-        parts.next(),
-        parts.next(),
-        parts.next(),
-        parts.next(),
-    ) else {
-        return Err(anyhow!("a line has not five parts"));
-    };
-    let received = bytes(heap, row)?;
-    if long.parse::<usize>()? != received.len() {
-        return Err(anyhow!("a row has another length"));
-    }
-    let after = bytes(heap, if code == "-" { row } else { code })?;
-    Ok(Recorded {
-        mending: answer(result, wrong)?,
-        received,
-        after,
-    })
 }

@@ -1,5 +1,5 @@
 -- What comparing a stream of packets with recorded rows finds.
-use Rattle.std.specs.Prelude.{ℕ, zero, suc, ◌+◌, ◌-◌, ◌*◌, ◌/◌, ◌%◌, min, Bool, cond, List, length, take, drop}
+use Rattle.std.specs.Prelude.{◌≡◌, ℕ, zero, suc, ◌+◌, ◌-◌, ◌*◌, ◌/◌, ◌%◌, min, Bool, cond, List, length, take, drop}
 use Rattle.randomizer.specs.Row.{row_of}
 use Rattle.std.specs.Str.{bytes_eq}
 use Rattle.vsbrows.specs.declared.compare.Comparison.{Comparison}
@@ -12,6 +12,10 @@ part n xs t = take n (drop (n * t) xs)
 abbrev pub agrees : List ℕ → List ℕ → ℕ → Bool
 agrees packets rows t = bytes_eq (row_of t (part 188 packets t)) (part 207 rows t)
 
+-- whether a packet with its number is coded to the row beside it
+abbrev pub coded_to : ℕ × (List ℕ × List ℕ) → Bool
+coded_to x = bytes_eq (row_of x.0 x.1.0) x.1.1
+
 -- how many of the first packets are coded to their recorded rows
 unfoldable pub agreeing : List ℕ → List ℕ → ℕ → ℕ
 agreeing packets rows zero = 0
@@ -22,13 +26,10 @@ abbrev pub compared : List ℕ → List ℕ → ℕ
 compared packets rows = min (length packets / 188) (length rows / 207)
 
 -- the whole finding
-abbrev pub comparison : List ℕ → List ℕ → Comparison
-comparison packets rows =
-    record {
-      packets = length packets / 188;
-      rows = length rows / 207;
-      equal = agreeing packets rows (compared packets rows);
-      different = compared packets rows - agreeing packets rows (compared packets rows);
-      short_packet = length packets % 188;
-      short_row = length rows % 207;
-    }
+pub record Compares (packets rows : List ℕ) (found : Comparison) : Type 0 where
+  pub packets_whole : found.packets ≡ length packets / 188
+  pub rows_whole : found.rows ≡ length rows / 207
+  pub equal : found.tally.equal ≡ agreeing packets rows (compared packets rows)
+  pub different : found.tally.different ≡ compared packets rows - agreeing packets rows (compared packets rows)
+  pub packet_rest : found.short_packet ≡ length packets % 188
+  pub row_rest : found.short_row ≡ length rows % 207

@@ -7,15 +7,13 @@ mod interleaving;
 use anyhow::anyhow;
 use compare::{Comparison, compare};
 use delay::Direction;
-use interleaving::{Agreement, BOTH_WAYS};
+use interleaving::BOTH_WAYS;
 use std::fs;
+use vectors::{Tally, cannot_read};
 
 // The bytes of a file of the folder that the program is run in.
 fn load(rt: &HostRuntime, name: &str) -> anyhow::Result<Vec<u8>> {
-    match fs::read(rt, name) {
-        Ok(bytes) => Ok(bytes),
-        Err(e) => Err(anyhow!(format!(in rt.alloc(); "cannot read {name}: {e}")?)),
-    }
+    fs::read(rt, name).map_err(|why| cannot_read(name, why))
 }
 
 // Prints what the comparison found: a line for a short end of a file, and the counts.
@@ -23,8 +21,7 @@ fn show_rows(rt: &HostRuntime, found: Comparison) -> anyhow::Result<()> {
     let Comparison {
         packets,
         rows,
-        equal,
-        different,
+        tally,
         short_packet,
         short_row,
     } = found;
@@ -34,28 +31,27 @@ fn show_rows(rt: &HostRuntime, found: Comparison) -> anyhow::Result<()> {
     if short_row > 0 {
         println!(rt; "short row {short_row}")?;
     }
-    println!(rt; "packets {packets} rows {rows} equal {equal} different {different}")?;
+    println!(rt; "packets {packets} rows {rows} {tally}")?;
     Ok(())
 }
 
 // Prints how many bytes were compared under a name, and how many are equal.
-fn show_bytes(rt: &HostRuntime, name: &str, found: Agreement) -> anyhow::Result<()> {
-    let Agreement { compared, equal } = found;
-    let different = compared.saturating_sub(equal);
-    println!(rt; "{name} {compared} equal {equal} different {different}")?;
+fn show_bytes(rt: &HostRuntime, name: &str, tally: Tally) -> anyhow::Result<()> {
+    let compared = tally.lines();
+    println!(rt; "{name} {compared} {tally}")?;
     Ok(())
 }
 
 // Interleaves the rows and compares; then undoes the recorded interleaving and compares with the rows.
 fn interleave(rt: &HostRuntime, rows: &[u8], recorded: &mut [u8]) -> anyhow::Result<()> {
     let mut made = rows.to_vec(rt.alloc())?;
-    if interleaving::pass(&mut made, Direction::Interleave).is_err() {
-        return Err(anyhow!("the interleaver refuses"));
-    }
+    interleaving::pass(&mut made, Direction::Interleave).map_err(|_| anyhow!(
+        "the interleaver refuses"
+    ))?;
     show_bytes(rt, "interleaved", interleaving::compare(&made, recorded))?;
-    if interleaving::pass(recorded, Direction::Deinterleave).is_err() {
-        return Err(anyhow!("the deinterleaver refuses"));
-    }
+    interleaving::pass(recorded, Direction::Deinterleave).map_err(|_| anyhow!(
+        "the deinterleaver refuses"
+    ))?;
     let back = recorded.get(BOTH_WAYS..).unwrap_or(&[]);
     show_bytes(rt, "deinterleaved", interleaving::compare(back, rows))
 }

@@ -3,30 +3,14 @@
 
 mod agree;
 
-use agree::{Stage, Tally, compare};
-use anyhow::anyhow;
-use std::fs;
-
-// Compares the lines of one file and prints a line of counts.
-fn report(rt: &HostRuntime, stage: Stage, name: &str) -> anyhow::Result<()> {
-    let text = match fs::read_to_string(rt, name) {
-        Ok(text) => text,
-        Err(e) => return Err(anyhow!(format!(in rt.alloc(); "cannot read {name}: {e}")?)),
-    };
-    let Tally { equal, different } = match compare(rt.alloc(), stage, text.as_str()) {
-        Ok(tally) => tally,
-        Err(line) => return Err(anyhow!(format!(in rt.alloc();
-            "{name}: line {line} is malformed"
-        )?)),
-    };
-    println!(rt; "{name} equal {equal} different {different}")?;
-    Ok(())
-}
+use agree::{encoder_agrees, numbering_agrees, reader_agrees};
+use vectors::report;
 
 fn run(rt: &HostRuntime) -> anyhow::Result<()> {
-    report(rt, Stage::Encoder, "encoder.txt")?;
-    report(rt, Stage::Reader, "reader.txt")?;
-    report(rt, Stage::Numbering, "symbols.txt")
+    let alloc = rt.alloc();
+    report(rt, "encoder.txt", |_, line| encoder_agrees(alloc, line))?;
+    report(rt, "reader.txt", |_, line| reader_agrees(alloc, line))?;
+    report(rt, "symbols.txt", |_, line| numbering_agrees(line))
 }
 
 fn main(rt: HostRuntime) -> anyhow::Result<()> {

@@ -5,8 +5,10 @@ mod figures;
 mod parse;
 
 use anyhow::anyhow;
-use figures::{Figures, compare};
+use figures::{report_agrees, sync_agrees};
+use parse::BadWord;
 use std::fs;
+use vectors::compare;
 
 fn main(rt: HostRuntime) -> anyhow::Result<()> {
     run(&rt)
@@ -14,18 +16,23 @@ fn main(rt: HostRuntime) -> anyhow::Result<()> {
 
 // Compares both files and prints a line for each.
 fn run(rt: &HostRuntime) -> anyhow::Result<()> {
-    compare_file(rt, "fieldsync.txt", Figures::Syncs)?;
-    compare_file(rt, "fieldreport.txt", Figures::Reports)
+    let alloc = rt.alloc();
+    compare_file(rt, "fieldsync.txt", "field syncs", |_, line| sync_agrees(alloc, line))?;
+    compare_file(rt, "fieldreport.txt", "field reports", |_, line| report_agrees(alloc, line))
 }
 
-// Compares a file and prints how many of its lines agree.
-fn compare_file(rt: &HostRuntime, name: &str, figures: Figures) -> anyhow::Result<()> {
-    let text = match fs::read_to_string(rt, name) {
-        Ok(text) => text,
-        Err(why) => return Err(anyhow!(format!(in rt.alloc(); "{name}: {why}")?)),
-    };
-    match compare(figures, text.as_str()) {
-        Ok(tally) => Ok(println!(rt; "{tally}")?),
-        Err(bad) => Err(anyhow!(format!(in rt.alloc(); "{name}: {bad}")?)),
-    }
+// Compares a file and prints what its lines are, how many there are and how many of them agree.
+fn compare_file<F: FnMut(usize, &str) -> Result<bool, BadWord>>(
+    rt: &HostRuntime,
+    name: &str,
+    what: &str,
+    agrees: F,
+) -> anyhow::Result<()>
+    requires { F.IsAlwaysCallable agrees }
+{
+    let text = fs::read_to_string(rt, name).map_err(|why| anyhow!("{name}: {why}"))?;
+    let tally = compare(text.as_str(), agrees).map_err(|bad| anyhow!("{name}: {bad}"))?;
+    let all = tally.lines();
+    println!(rt; "{what} {all} {tally}")?;
+    Ok(())
 }

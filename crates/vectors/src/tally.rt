@@ -1,0 +1,60 @@
+// How many lines agree.
+ghost use Rattle.std.specs.Prelude.{◌≡◌, ◌+◌, ◌^◌, ◌<◌};
+
+use std::fmt;
+
+// How many lines agree, and how many do not.
+#[derive(Clone, Copy, PartialEq, Eq, Debug)]
+pub struct Tally {
+    pub equal: usize,
+    pub different: usize,
+    ghost fits: { equal + different < 2 ^ 64 },
+}
+
+impl Tally {
+    ghost use Rattle.vectors.specs.Tally.{counts_of, lines_of, counted};
+
+    // No line is counted yet.
+    pub fn new() -> Tally
+        ensures { counts_of result ≡ (0, 0) }
+    {
+        Tally {
+            equal: 0,
+            different: 0,
+        }
+    }
+
+    // How many lines are counted.
+    pub fn lines(self) -> usize
+        ensures { result ≡ lines_of self }
+    {
+        self.equal + self.different
+    }
+
+    // The tally with one line more, by whether it agrees.
+    pub fn counted(self, agrees: bool) -> Tally
+        requires { lines_of self + 1 < 2 ^ 64 }
+        ensures { counts_of result ≡ counted (counts_of self) agrees }
+    {
+        let Tally { equal, different } = self;
+        if agrees {
+            Tally {
+                equal: equal + 1,
+                different,
+            }
+        } else {
+            Tally {
+                equal,
+                different: different + 1,
+            }
+        }
+    }
+}
+
+impl fmt::Display for Tally {
+    fn fmt<W: fmt::Write>(&self, f: &mut fmt::Formatter<W>) -> fmt::Result {
+        let equal = self.equal;
+        let different = self.different;
+        write!(f, "equal {equal} different {different}")
+    }
+}
