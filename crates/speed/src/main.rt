@@ -1,15 +1,13 @@
 // Times the library's calls on pseudo-random rows, and prints the best of several turns to standard error.
 #![tactic(auto)]
 
-ghost use Rattle.std.specs.Prelude.{◌<◌};
-
 use delay::{Delay, Direction};
 use mender::{Mending, mend};
 use randomizer::{code_packet, combine};
 use reed_solomon::{complete, is_code};
 use refusal::Refusal;
 use std::io;
-use std::time::Instant;
+use std::time::{Duration, Instant};
 use trellis::{Marked, Reader, Trellis};
 
 // Rows that are worked on, rounds over them in one turn, and turns of which the best counts.
@@ -20,20 +18,21 @@ const ROUNDS: usize = 200;
 const TURNS: usize = 9;
 
 // Calls in one turn.
-const CALLS: u32 = 12800;
+const CALLS: u128 = 12800;
 
-// A call that is timed.
-#[derive(Clone, Copy)]
-enum Work {
-    Complete,
-    IsCode,
-    Combine,
-    CodePacket,
-    Interleave,
-    // Mending a row with this many wrong bytes, at most 32.
-    Mend(u8),
-    WriteSegment,
-    ReadSegment,
+// Why a call is not timed.
+#[derive(Clone, Copy, Debug)]
+enum Failure {
+    // The call refused.
+    Refused(Refusal),
+    // A completed row is no code row.
+    NoCodeRow,
+}
+
+impl From<Refusal> for Failure {
+    fn from(refusal: Refusal) -> Failure {
+        Failure::Refused(refusal)
+    }
 }
 
 // The next number of an xorshift sequence.
@@ -43,18 +42,21 @@ fn draw(state: u64) -> u64 {
     b ^ b.wrapping_shl(17)
 }
 
-// Fills rows with pseudo-random bytes.
-fn fill(rows: &mut [u8]) {
+// Fills a row with pseudo-random bytes.
+fn fill(row: &mut [u8]) {
     let mut state = 88172645463325252;
-    for byte in rows.iter_mut() {
+    for byte in row {
         state = draw(state);
         *byte = (state & 0xff) as u8;
     }
 }
 
-// Combines a packet's bytes into a row's memory; whether it was accepted.
-fn combined(packet: &[u8; 188], place: usize, row: &mut [u8; 207]) -> bool {
-    combine(&packet[1..188], place, &mut row[0..187]).is_ok()
+// Rows of the code.
+fn code_rows() -> Result<[[u8; 207]; ROWS], Refusal> {
+    let mut row = [0; 207];
+    fill(&mut row);
+    complete(&mut row)?;
+    Ok([row; ROWS])
 }
 
 // Alters so many bytes of a row; done twice the row is as before.
@@ -64,24 +66,19 @@ fn damage(row: &mut [u8; 207], wrong: u8) {
     }
 }
 
-// Mends a damaged row, and undoes the damage where it is spoiled; whether it was accepted.
-fn mended(row: &mut [u8; 207], wrong: u8) -> bool {
+// Mends a damaged row, and undoes the damage where it is spoiled.
+fn mend_damaged(row: &mut [u8; 207], wrong: u8) -> Result<(), Failure> {
     damage(row, wrong);
-    match mend(row) {
-        Ok(Mending::Spoiled) => {
-            damage(row, wrong);
-            true
-        }
-        Ok(_) => true,
-        Err(_) => false,
+    if mend(row)? == Mending::Spoiled {
+        damage(row, wrong);
     }
+    Ok(())
 }
 
-// What the calls work on.
+// What the calls work on beside a row.
 #[derive(Drop)]
 struct Bench {
     packet: [u8; 188],
-    rows: [[u8; 207]; 64],
     memory: Delay,
     cells: [u8; 5304],
     passing: [u8; 207],
@@ -93,22 +90,15 @@ struct Bench {
 }
 
 impl Bench {
-    // A bench with code rows.
+    // A bench with a pseudo-random packet and quad.
     fn new() -> Result<Bench, Refusal> {
-        let mut packet = [0u8; 188];
-        let mut rows = [[0u8; 207]; 64];
+        let mut packet = [0; 188];
         fill(&mut packet);
-        for i in 0..ROWS {
-            fill(&mut rows[i]);
-            complete(&mut rows[i])?;
-        }
-        let mut quad = [0u8; 828];
+        let mut quad = [0; 828];
         fill(&mut quad);
-        let memory = Delay::new(52, 4, Direction::Interleave)?;
         Ok(Bench {
             packet,
-            rows,
-            memory,
+            memory: Delay::new(52, 4, Direction::Interleave)?,
             cells: [0; 5304],
             passing: [0; 207],
             trellis: Trellis::new(),
@@ -121,78 +111,104 @@ impl Bench {
             }; 828],
         })
     }
-
-    // Does the work once on row number i; whether it was accepted.
-    fn once(&mut self, work: Work, i: usize) -> bool
-        requires { i < 64 }
-    {
-        let packet = self.packet;
-        match work {
-            Work::Complete => complete(&mut self.rows[i]).is_ok(),
-            Work::IsCode => is_code(&self.rows[i]),
-            Work::Combine => combined(&packet, i, &mut self.rows[i]),
-            Work::CodePacket => code_packet(&packet, i, &mut self.rows[i]).is_ok(),
-            Work::Mend(wrong) => mended(&mut self.rows[i], wrong),
-            Work::WriteSegment => self.trellis.write(&self.quad, i, &mut self.symbols).is_ok(),
-            Work::ReadSegment => self.reader.read(&self.symbols, i, &mut self.read).is_ok(),
-            Work::Interleave => self.memory.pass(&mut self.cells, &mut self.passing).is_ok(),
-        }
-    }
-
-    // Does the work on every row, so many rounds; how often it was accepted.
-    fn rounds(&mut self, work: Work) -> u32 {
-        let mut accepted = 0u32;
-        for _ in 0..ROUNDS {
-            for i in 0..ROWS {
-                if self.once(work, i) {
-                    accepted = accepted.saturating_add(1);
-                }
-            }
-        }
-        accepted
-    }
 }
 
-// The nanoseconds of the calls of the best turn; the greatest number where a call was refused.
-fn best(rt: &HostRuntime, work: Work) -> io::Result<u64> {
-    let mut least = u64::MAX;
-    let Ok(mut bench) = Bench::new() else {
-        return Ok(least);
-    };
-    for _ in 0..TURNS {
-        let start = Instant::now(rt)?;
-        let accepted = bench.rounds(work);
-        let took = start.elapsed(rt)?;
-        if accepted == CALLS {
-            let ns = took
-                .as_secs()
-                .saturating_mul(1_000_000_000)
-                .saturating_add(u64::from(took.subsec_nanos()));
-            least = least.min(ns);
+// Works on every row with its number, so many rounds.
+fn work_rounds<W: FnMut(&mut Bench, usize, &mut [u8; 207]) -> Result<(), Failure>>(
+    work: &mut W,
+    bench: &mut Bench,
+    rows: &mut [[u8; 207]; ROWS],
+) -> Result<(), Failure>
+    requires { (state : W) (bench : _) (i : _) (row : _) → W.pre state bench i row }
+{
+    for _ in 0..ROUNDS {
+        for (i, row) in rows.iter_mut().enumerate() {
+            work(bench, i, row)?;
         }
     }
-    Ok(least)
+    Ok(())
+}
+
+// The time of the calls of the best turn.
+fn best<W: FnMut(&mut Bench, usize, &mut [u8; 207]) -> Result<(), Failure>>(
+    rt: &HostRuntime,
+    mut work: W,
+) -> io::Result<Result<Duration, Failure>>
+    requires { (state : W) (bench : _) (i : _) (row : _) → W.pre state bench i row }
+{
+    let (mut bench, mut rows) = match (Bench::new(), code_rows()) {
+        (Ok(bench), Ok(rows)) => (bench, rows),
+        (Err(refusal), _) | (_, Err(refusal)) => return Ok(Err(refusal.into())),
+    };
+    let mut least = Duration::MAX;
+    for _ in 0..TURNS {
+        let start = Instant::now(rt)?;
+        let done = work_rounds(&mut work, &mut bench, &mut rows);
+        least = least.min(start.elapsed(rt)?);
+        if let Err(why) = done {
+            return Ok(Err(why));
+        }
+    }
+    Ok(Ok(least))
 }
 
 // Times one call and prints it.
-fn report(rt: &HostRuntime, name: &str, work: Work) -> io::Result<()> {
-    let all = best(rt, work)?;
-    let each = all / u64::from(CALLS);
-    let rate = 12_800_000_000_000 / all.max(1);
-    eprintln!(rt; "{name} {each} ns, {rate} a second")
+fn report<W: FnMut(&mut Bench, usize, &mut [u8; 207]) -> Result<(), Failure>>(
+    rt: &HostRuntime,
+    name: &str,
+    work: W,
+) -> io::Result<()>
+    requires { (state : W) (bench : _) (i : _) (row : _) → W.pre state bench i row }
+{
+    match best(rt, work)? {
+        Ok(least) => {
+            let all = least.as_nanos();
+            let each = all / CALLS;
+            let rate = CALLS * 1_000_000_000 / all.max(1);
+            eprintln!(rt; "{name} {each} ns, {rate} a second")
+        }
+        Err(why) => eprintln!(rt; "{name} is not timed: {why:?}"),
+    }
+}
+
+// Times mending a row with so many wrong bytes, at most 32.
+fn report_mending(rt: &HostRuntime, name: &str, wrong: u8) -> io::Result<()> {
+    report(rt, name, |_, _, row| mend_damaged(row, wrong))
 }
 
 fn main(rt: HostRuntime) -> io::Result<()> {
-    report(&rt, "complete", Work::Complete)?;
-    report(&rt, "is_code", Work::IsCode)?;
-    report(&rt, "combine", Work::Combine)?;
-    report(&rt, "code_packet", Work::CodePacket)?;
-    report(&rt, "interleave a row", Work::Interleave)?;
-    report(&rt, "mend 0 wrong", Work::Mend(0))?;
-    report(&rt, "mend 1 wrong", Work::Mend(1))?;
-    report(&rt, "mend 5 wrong", Work::Mend(5))?;
-    report(&rt, "mend 10 wrong", Work::Mend(10))?;
-    report(&rt, "mend 11 wrong", Work::Mend(11))?;
-    report(&rt, "write 828 symbols", Work::WriteSegment)?;
-    report(&rt, "read 828 symbols", Work::ReadSegment)
+    report(&rt, "complete", |_, _, row| Ok(complete(row)?))?;
+    report(
+        &rt,
+        "is_code",
+        |_, _, row| if is_code(row) {
+            Ok(())
+        } else {
+            Err(Failure::NoCodeRow)
+        },
+    )?;
+    report(
+        &rt,
+        "combine",
+        |bench, i, row| Ok(combine(&bench.packet[1..188], i, &mut row[0..187])?),
+    )?;
+    report(
+        &rt,
+        "code_packet",
+        |bench, i, row| Ok(code_packet(&bench.packet, i, row)?),
+    )?;
+    report(&rt, "interleave a row", |bench, _, _| {
+        Ok(bench.memory.pass(&mut bench.cells, &mut bench.passing)?)
+    })?;
+    report_mending(&rt, "mend 0 wrong", 0)?;
+    report_mending(&rt, "mend 1 wrong", 1)?;
+    report_mending(&rt, "mend 5 wrong", 5)?;
+    report_mending(&rt, "mend 10 wrong", 10)?;
+    report_mending(&rt, "mend 11 wrong", 11)?;
+    report(&rt, "write 828 symbols", |bench, i, _| {
+        Ok(bench.trellis.write(&bench.quad, i, &mut bench.symbols)?)
+    })?;
+    report(&rt, "read 828 symbols", |bench, i, _| {
+        Ok(bench.reader.read(&bench.symbols, i, &mut bench.read)?)
+    })
 }
