@@ -27,6 +27,8 @@ enum Failure {
     Refused(Refusal),
     // A completed row is no code row.
     NoCodeRow,
+    // The calls leave a row of zeros.
+    BlankRow,
 }
 
 impl From<Refusal> for Failure {
@@ -125,6 +127,10 @@ fn work_rounds<W: FnMut(&mut Bench, usize, &mut [u8; 207]) -> Result<(), Failure
         for (i, row) in rows.iter_mut().enumerate() {
             work(bench, i, row)?;
         }
+    }
+    // The rows are read, since calls that write what nothing reads are compiled away.
+    if rows.iter().any(|row| row.iter().all(|byte| *byte == 0)) {
+        return Err(Failure::BlankRow);
     }
     Ok(())
 }
