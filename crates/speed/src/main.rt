@@ -63,8 +63,8 @@ fn code_rows() -> Result<[[u8; 207]; ROWS], Refusal> {
 
 // Alters so many bytes of a row; done twice the row is as before.
 fn damage(row: &mut [u8; 207], wrong: u8) {
-    for k in 0..wrong.min(32) {
-        row[6 * k as usize] ^= k + 1;
+    for (byte, k) in row.iter_mut().step_by(6).zip(1..=wrong.min(32)) {
+        *byte ^= k;
     }
 }
 

@@ -6,6 +6,11 @@ use Rattle.std.specs.List.{FoldsTo, enumerate_from}
 use Rattle.std.proofs.lemmas.List.{map-append, length-map, take_all}
 use Rattle.std.proofs.lemmas.List.Sums.{sum_by-cons, count_by-le-length}
 use Rattle.std.proofs.lemmas.List.FromFn.{length-enumerate_from, get_or-enumerate_from}
+use Rattle.std.specs.Iterator.Adapters.{enumerate_source, enumerate_count, enumerate_steps}
+use Rattle.std.specs.Str.Iter.{lines_rest, lines_steps}
+use Rattle.std.proofs.lemmas.Iterator.{YieldsList}
+use Rattle.std.proofs.lemmas.Iterator.Splits.{YieldsList-from_lines}
+use Rattle.std.proofs.lemmas.Iterator.Consumers.{YieldsList-from_enumerate}
 use Rattle.std.proofs.lemmas.Fn.{FoldsTo-push}
 use Rattle.std.proofs.lemmas.Option.{slice_get_read}
 use Rattle.vectors.specs.Tally.{counted}
@@ -15,6 +20,10 @@ use denote.Ref.{Bor}
 -- a numbered line as it is read
 abbrev pub line_of : ℕ × Bor (List ℕ) → ℕ × List ℕ
 line_of x = (x.0, x.1.now)
+
+-- the lines of a text with their numbers, one by one
+pub numbered : {s : _} (text : List ℕ) → lines_rest (enumerate_source s) ≡ text → enumerate_count s ≡ 0 → YieldsList {B = ℕ × List ℕ} (enumerate_steps lines_steps) line_of s (enumerate_from 0 (lines text))
+numbered text e f = YieldsList-from_enumerate (YieldsList-from_lines text e) f
 
 -- how many lines are counted
 abbrev pub all_of : ℕ × ℕ → ℕ

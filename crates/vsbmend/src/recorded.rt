@@ -20,7 +20,10 @@ impl Recorded {
             bail!("a line has not five parts");
         };
         let received = row_bytes(alloc, row)?;
-        ensure!(length.parse::<usize>()? == received.len(), "a row has another length");
+        ensure!(
+            length.parse::<usize>()? == received.len(),
+            "a row has another length"
+        );
         let after = row_bytes(alloc, if *code == "-" { row } else { code })?;
         Ok(Recorded {
             mending: mending(outcome, wrong)?,

@@ -17,8 +17,18 @@ fn main(rt: HostRuntime) -> anyhow::Result<()> {
 // Compares both files and prints a line for each.
 fn run(rt: &HostRuntime) -> anyhow::Result<()> {
     let alloc = rt.alloc();
-    compare_file(rt, "fieldsync.txt", "field syncs", |_, line| sync_agrees(alloc, line))?;
-    compare_file(rt, "fieldreport.txt", "field reports", |_, line| report_agrees(alloc, line))
+    compare_file(
+        rt,
+        "fieldsync.txt",
+        "field syncs",
+        |_, line| sync_agrees(alloc, line),
+    )?;
+    compare_file(
+        rt,
+        "fieldreport.txt",
+        "field reports",
+        |_, line| report_agrees(alloc, line),
+    )
 }
 
 // Compares a file and prints what its lines are, how many there are and how many of them agree.
