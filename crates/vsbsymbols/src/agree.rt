@@ -1,5 +1,5 @@
 // Whether a recorded line agrees with what the library makes of it.
-ghost use Rattle.std.specs.Prelude.{◌<◌, ◌^◌, IfSome};
+ghost use Rattle.std.specs.Prelude.{◌<◌, ◌^◌};
 
 use refusal::Refusal;
 use std::alloc::Global;
