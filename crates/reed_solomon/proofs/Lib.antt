@@ -1,5 +1,4 @@
 pub mod Computed
 pub mod Digits
 pub mod Ends
-pub mod Filled
 pub mod Words

@@ -1,27 +1,19 @@
 -- Arrays that a closure makes, and counts over two lists.
-use Rattle.std.proofs.Common.{◌≡◌, ℕ, zero, suc, ◌+◌, ◌<◌, ◌≤◌, Bool, cond, List, [], ◌∷◌, map, length, get_or, sym, refl, ap, ◌∙◌, subst, inl, inr, arith}
+use Rattle.std.proofs.Common.{◌≡◌, ℕ, zero, suc, ◌+◌, Bool, cond, List, [], ◌∷◌, map, length, get_or, sym, refl, ap, ◌∙◌, arith}
 use denote.Param.Members.{Mut}
 use Rattle.std.specs.Fn.{Called}
-use Rattle.std.specs.Array.{IsFromFnResult, IsFromFnResultFrom}
+use Rattle.std.specs.Array.{IsFromFnResult}
 use Rattle.std.specs.List.{range_with_len, count_by, zip}
-use Rattle.std.proofs.lemmas.Bool.{cases_eq}
 use Rattle.std.proofs.lemmas.List.FromFn.{fill_by_all}
 use Rattle.std.proofs.lemmas.List.Sums.{sum_by-cons}
+use Rattle.tables.proofs.Arrays.{each_of}
 use Rattle.level.specs.Level.{bit}
 use Rattle.segments.specs.Report.{count}
 
 -- a closure that gives h of each index, and that its calls leave as it is, makes h of each index
 module _ {F B : Type 0} (g : Mut F (ℕ × Unit {0}) B) (h : ℕ → B) (f : F) (step : (i : ℕ) (y : B) (q : F) → Called g f (i, tt) y q → (y ≡ h i) × (q ≡ f)) where
-  each_is : (n i : ℕ) (ys : List B) (d : B) → IsFromFnResultFrom g f ys i n → (k : ℕ) → i ≤ k → k < i + n → get_or ys k d ≡ h k
-  each_is zero i ys d m k a b = absurd (omega arith)
-  each_is (suc n) i ys d m k a b =
-      elim (cases_eq k i) [
-        | inl e ↦ rw e (m.2.1 d ∙ (step i m.1 m.0 m.3).0)
-        | inr e ↦ each_is n (i + 1) ys d (subst (λ (p : F). IsFromFnResultFrom g p ys (i + 1) n) (step i m.1 m.0 m.3).1 m.4) k (omega arith) (omega arith)
-      ]
-
   pub made_of_indices : (n : ℕ) (ys : List B) (d : B) → IsFromFnResult g f ys n → ys ≡ map h (range_with_len 0 n)
-  made_of_indices n ys d m = fill_by_all h ys n d m.long (λ k l. each_is n 0 ys d m.each k (omega arith) (omega arith))
+  made_of_indices n ys d m = fill_by_all h ys n d m.long (λ k l. each_of g (λ k y. y ≡ h k) f step ys n m k d l)
 
 -- the first test apart
 count_first : (test : ℕ → Bool) (n : ℕ) → count test (suc n) ≡ bit (test 0) + count (λ k. test (suc k)) n
