@@ -37,12 +37,3 @@ four a b c d f ea eb ec ed (suc zero) h = eb
 four a b c d f ea eb ec ed (suc (suc zero)) h = ec
 four a b c d f ea eb ec ed (suc (suc (suc zero))) h = ed
 four a b c d f ea eb ec ed (suc (suc (suc (suc q)))) h = absurd (omega arith)
-
-pub returns : goal.returns
-returns c =
-    let I = c.loop-j.invariant in
-    let done : c.loop-j.j ≡ c.args.d + 1 = omega arith in
-    record {
-      sums = rw (← done) (four c.loop-j.one c.loop-j.two c.loop-j.three c.loop-j.four (λ (q : ℕ). sum_on q c.loop-j.j c.args.e.now) I.one I.two I.three I.four);
-      are = λ j h. I.on j (omega arith);
-    }

@@ -1,7 +1,7 @@
 use Rattle.std.proofs.Common.{◌≡◌, ◌∙◌, [], length, get_or, ap, sym, rules, arith}
 use Rattle.std.specs.List.{flat_map}
 use Rattle.packed_line.specs.Packing.{unpacked}
-use Rattle.packed_line.proofs.Arrays.{each_of}
+use Rattle.tables.proofs.Arrays.{each_of}
 use Rattle.packed_line.proofs.Groups.{group_length, groups_hold, groups_join}
 use Rattle.packed_line.proofs.PackedLayout.load.Goals as goal
 

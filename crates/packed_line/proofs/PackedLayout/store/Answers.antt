@@ -1,7 +1,8 @@
 use Rattle.std.proofs.Common.{◌≡◌, ◌∙◌, [], length, get_or, ap, rules, arith}
 use Rattle.std.specs.List.{flat_map}
 use Rattle.packed_line.specs.Packing.{unpacked}
-use Rattle.packed_line.proofs.Arrays.{index_turns, each_of}
+use Rattle.packed_line.proofs.Arrays.{index_turns}
+use Rattle.tables.proofs.Arrays.{each_of}
 use Rattle.packed_line.proofs.Groups.{group_levels, groups_hold, groups_join}
 use Rattle.packed_line.proofs.PackedLayout.store.Goals as goal
 

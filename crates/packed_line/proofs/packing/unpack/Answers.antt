@@ -1,6 +1,6 @@
 use Rattle.std.proofs.Common.{◌≡◌, ◌-◌, ◌*◌, ◌/◌, ◌%◌, ◌^◌, ◌<◌, get_or, rules}
 use Rattle.packed_line.specs.Packing.{level_from, three_bytes}
-use Rattle.packed_line.proofs.Arrays.{each_of}
+use Rattle.tables.proofs.Arrays.{each_of}
 use Rattle.packed_line.proofs.Packs.{unpack_is}
 use Rattle.packed_line.proofs.packing.unpack.Goals as goal
 

@@ -14,9 +14,6 @@ invariant_of-received c =
     let l : length c.in-Some.levels.now ≡ 828 = search rules in
     record { each_level = λ p h. each_level c.in-Some.levels.now (cc) p (omega arith) }
 
-pub loop-place-init : goal.loop-place-init
-loop-place-init c = read_none _ _ _ _ _
-
 pub loop-place-preserved : goal.loop-place-preserved
 loop-place-preserved c =
     let s : c.in-Some.levels.now ≡ c.args.symbols.now = search rules in
