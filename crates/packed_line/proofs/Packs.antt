@@ -27,7 +27,7 @@ from_is_level (suc (suc (suc (suc (suc (suc (suc zero))))))) h = refl
 from_is_level (suc (suc (suc (suc (suc (suc (suc (suc z)))))))) h = absurd (omega arith)
 
 -- three bits make a level
-level_of_bits : (n : ℕ) → is_level (level_from (n % 8)) ≡ true
+pub level_of_bits : (n : ℕ) → is_level (level_from (n % 8)) ≡ true
 level_of_bits n = from_is_level (n % 8) (omega arith)
 
 -- eight symbols of 24 bits are levels
@@ -44,7 +44,7 @@ eight_levels n =
     simp (a, b, c, d, e, f, g, h)
 
 -- equal elements make equal lists
-same_eight : {a b c d e f g h a' b' c' d' e' f' g' h' : ℤ} → a ≡ a' → b ≡ b' → c ≡ c' → d ≡ d' → e ≡ e' → f ≡ f' → g ≡ g' → h ≡ h' → a ∷ b ∷ c ∷ d ∷ e ∷ f ∷ g ∷ h ∷ [] ≡ a' ∷ b' ∷ c' ∷ d' ∷ e' ∷ f' ∷ g' ∷ h' ∷ []
+pub same_eight : {a b c d e f g h a' b' c' d' e' f' g' h' : ℤ} → a ≡ a' → b ≡ b' → c ≡ c' → d ≡ d' → e ≡ e' → f ≡ f' → g ≡ g' → h ≡ h' → a ∷ b ∷ c ∷ d ∷ e ∷ f ∷ g ∷ h ∷ [] ≡ a' ∷ b' ∷ c' ∷ d' ∷ e' ∷ f' ∷ g' ∷ h' ∷ []
 same_eight pa pb pc pd pe pf pg ph = cc
 
 -- the symbols of eight numbers, the first in the highest bits
