@@ -17,7 +17,7 @@ use std::ops::Range;
 // How many places there are: 832 × 2⁴⁰.
 const PLACES: u64 = 832 * NUMBERS;
 
-// The number by which a bad list of bursts is refused.
+// The number by which a bad list of bursts is refused, as integrators are told it.
 const BAD_BURSTS: u8 = 10;
 
 // The places from `offset` up to, and not including, `offset + length`.
@@ -61,7 +61,7 @@ fn is_bad(end: u64, burst: Burst) -> bool
         || burst.offset + burst.length as u64 > PLACES
 }
 
-// The number of the first bad pair of a list, 16 where it is too long.
+// The number of the first bad pair of a list, 16 where it is too long, as integrators are told it.
 // A loop and not `position`: each burst is judged by the end of the one before it.
 pub fn first_bad(list: &[Burst]) -> Option<usize>
     ensures { result ≡ bad_pair list.now }

@@ -96,6 +96,7 @@ impl FrameLock {
     }
 
     // The place of the next packet in its frame: 0 while the lock waits.
+    // A number and no Option: callers are promised it, and `frame` has the enum.
     pub fn place(&self) -> u16
         ensures { result ≡ place_of self.now.frame }
     {
@@ -105,7 +106,8 @@ impl FrameLock {
         }
     }
 
-    // How many frames in a row came without their mark.
+    // How many frames in a row came without their mark: 0 while the lock waits.
+    // A number and no Option: callers are promised it, and `frame` has the enum.
     pub fn misses(&self) -> u8
         ensures { result ≡ misses_of self.now.frame }
     {

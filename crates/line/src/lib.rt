@@ -26,7 +26,7 @@ pub enum LineFault {
 }
 
 impl LineFault {
-    // The number by which this fault is known.
+    // The number by which this fault is known: integrators are told each refusal by its number, beside the enum.
     pub fn number(self) -> u8
         ensures { result ≡ fault_number self }
     {
@@ -75,7 +75,7 @@ impl LineRefusal {
     }
 }
 
-// The number by which a memory or a first number is refused.
+// The number by which a memory or a first number is refused, as integrators are told it.
 const NO_LINE: u8 = 12;
 
 // A memory handed back, since no line can be made of it and the first number.

@@ -46,6 +46,7 @@ fn correct(row: &mut [u8], s: &[u8; 20], locator: &Locator, roots: &Roots)
     ensures { bytes row.new ≡ corrected (correction_at (polynomial locator.now.coefficients locator.now.degree) (bytes roots.now.at.items) (syndrome s.now)) (bytes row.old) }
 {
     let n = row.len();
+    // The row by index: what is written through a zip of iter_mut is not known to the check.
     for (i, value) in roots.values[..n].iter().enumerate() {
         if *value == 0 {
             row[i] ^= magnitude(s, roots.at.as_slice(), power((n - 1 - i) as u8));

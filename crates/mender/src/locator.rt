@@ -45,6 +45,7 @@ fn add_multiple(v: &mut [u8; 11], c: u8, u: &[u8; 11], m: usize)
     requires zero_behind { (k : ℕ) → m ≤ k → slice_index u.now k ≡ 0 }
     ensures { (k : ℕ) → k < 11 → slice_index v.new k ≡ bit_xor (slice_index v.old k) (gf_mul c (slice_index u.now k)) }
 {
+    // v by index: what is written through a zip of iter_mut is not known to the check.
     for (k, y) in u[..m].iter().enumerate() {
         v[k] ^= mul(c, *y);
     }
@@ -67,10 +68,7 @@ pub(crate) fn inverted(a: u8) -> u8
     requires { 0 < a }
     ensures { gf_mul a result ≡ 1 }
 {
-    match inverse(a) {
-        Some(b) => b,
-        None => unreachable(),
-    }
+    inverse(a).unwrap()
 }
 
 impl Pivots {

@@ -15,7 +15,7 @@ fn number_of(level: i8) -> u8
     (level + 7) as u8 / 2
 }
 
-// The level of a number Z from 0 to 7.
+// The level of a number Z from 0 to 7. In one step, as the number is made: three bits between are no plainer.
 fn level_of(z: u32) -> i8
     requires { z < 8 }
     ensures { result ≡ level_from z }

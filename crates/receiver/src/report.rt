@@ -13,6 +13,7 @@ pub struct PacketReport {
 
 impl PacketReport {
     // How many bytes of the row came in other than in the row handed out: none where it is spoiled.
+    // A number and no Option: callers are promised it, and `result` has the enum.
     pub fn wrong(self) -> u8
         ensures { result ≡ wrong_bytes self.result }
     {

@@ -26,7 +26,7 @@ pub enum Refusal {
 }
 
 impl Refusal {
-    // The number by which this refusal is known.
+    // The number by which this refusal is known: integrators are told each refusal by its number, beside the enum.
     pub fn number(self) -> u8
         ensures { result ≡ refusal_number self }
     {

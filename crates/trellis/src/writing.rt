@@ -83,6 +83,7 @@ impl Trellis {
         };
         let turn = 4 * (segment % 3);
         let first = 69 * (segment % 4);
+        // The reader has this loop too: what is promised of the twelve lanes differs, and one loop over both would be no plainer.
         for place in 0..12 {
             self.write_one((place + turn) % 12, quad, Lane { first, place }, out);
         }
