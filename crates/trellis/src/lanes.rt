@@ -40,6 +40,7 @@ impl Lane {
 }
 
 // An encoder or a memory that takes a lane's symbols in turn, from a source to a target.
+// The three stay apart: all lanes share the source and write the one target, which a struct of them would have to lend again for each lane.
 pub(crate) trait Coder<S, T> {
     // What it leaves of itself and the target from one symbol's number to another's.
     ghost goes: { S → ℕ → ℕ → ℕ → ℕ → Self → T → Self → T → Type 0 };

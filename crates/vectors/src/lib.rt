@@ -59,7 +59,7 @@ impl From<ParseIntError> for VectorError {
     }
 }
 
-// The value of a hexadecimal digit.
+// The value of a hexadecimal digit. By a match: the digits are lower case, and `char::to_digit` takes capitals too.
 fn digit(c: u8) -> Option<u8>
     ensures { result ≡ digit_value c }
 {

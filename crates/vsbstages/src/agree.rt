@@ -1,4 +1,5 @@
 // Whether a recorded line agrees with what the library makes of it.
+// Each takes what the comparison's closure has: where memory comes from, and the line. A struct of the two would be made for one call.
 use randomizer::{code_packet, combine};
 use reed_solomon::complete;
 use std::alloc::Global;

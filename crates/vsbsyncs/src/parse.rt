@@ -43,7 +43,7 @@ impl From<ParseIntError> for BadWord {
     }
 }
 
-// A bit, 0 or 1.
+// A bit, 0 or 1. By a match: `bool` is parsed from the words true and false.
 pub(crate) fn bit(text: &str) -> Result<bool, BadWord> {
     match text {
         "0" => Ok(false),
