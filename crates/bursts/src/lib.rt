@@ -238,19 +238,14 @@ mod tests {
     ) -> Result<BurstLayer<L>, Fail> {
         let mut list = Vec::new(heap);
         list.push(Burst { offset, length })?;
-        match BurstLayer::new(lower, list) {
-            Ok(layer) => Ok(layer),
-            Err(_) => Err(Fail::new("bad bursts")),
-        }
+        BurstLayer::new(lower, list).map_err(|_| Fail::new("bad bursts"))
     }
 
     // Two layers over a plain line of one segment.
     fn pile(heap: Global) -> Result<BurstLayer<BurstLayer<PlainLine>>, Fail> {
         let memory = vec![in heap; 0i8; 832]?;
-        match PlainLine::new(memory, 5) {
-            Ok(plain) => layer(heap, layer(heap, plain, 4160, 2)?, 4161, 2),
-            Err(_) => Err(Fail::new("no line")),
-        }
+        let plain = PlainLine::new(memory, 5).map_err(|_| Fail::new("no line"))?;
+        layer(heap, layer(heap, plain, 4160, 2)?, 4161, 2)
     }
 
     #[test]

@@ -6,7 +6,7 @@ use super::branches::{Shape, Turn};
 
 pub mod calls;
 
-// Whose turn it is, and the slot of each branch that its next element goes into.
+// Whose turn it is, and the slot of each branch that its next element goes into, in memory for the most branches: there is no heap.
 #[derive(Clone, Copy)]
 pub struct Delay {
     shape: Shape,

@@ -38,7 +38,7 @@ pub(crate) trait Branching: Copy {
 }
 
 // Refuses cells that are not as many as are needed.
-fn whole(cells: usize, needed: usize) -> Result<(), Refusal>
+fn check_length(cells: usize, needed: usize) -> Result<(), Refusal>
     ensures { result ≡ length_answer cells needed }
 {
     if cells == needed {
@@ -86,7 +86,7 @@ pub(crate) fn push<S: Branching, T: Copy>(
         (λ y. Took (S.layout shape) (S.place turn.old slots.old) cells.old x y (S.place turn.new slots.new) cells.new)
         (λ e. (e ≡ WrongLength) × (turn.new ≡ turn.old) × (slots.new ≡ slots.old) × (cells.new ≡ cells.old)) }
 {
-    whole(cells.len(), shape.cells())?;
+    check_length(cells.len(), shape.cells())?;
     let mut y = x;
     through(shape, turn, slots, cells, &mut y);
     Ok(y)
@@ -109,7 +109,7 @@ pub(crate) fn pass<S: Branching, T: Copy>(
         (λ _. Ran (S.layout shape) (S.place turn.old slots.old) cells.old part.old part.new (S.place turn.new slots.new) cells.new)
         (λ _. (turn.new ≡ turn.old) × (slots.new ≡ slots.old) × (cells.new ≡ cells.old) × (part.new ≡ part.old)) }
 {
-    whole(cells.len(), shape.cells())?;
+    check_length(cells.len(), shape.cells())?;
     let mut now = *turn;
     for x in part.iter_mut() {
         through(shape, &mut now, slots, cells, x);
@@ -129,7 +129,7 @@ pub(crate) fn clear<S: Branching, T: Copy>(
         (λ _. cells.new ≡ replicate (length cells.old) zero)
         (λ _. cells.new ≡ cells.old) }
 {
-    whole(cells.len(), shape.cells())?;
+    check_length(cells.len(), shape.cells())?;
     // Not by `fill`: it clones, and nothing says that a clone of a `Copy` value is that value.
     for cell in cells.iter_mut() {
         *cell = zero;

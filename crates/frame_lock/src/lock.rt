@@ -69,19 +69,14 @@ impl FrameLock {
                 self.frame = Frame::Waiting;
                 Err(Refusal::NoFrame)
             }
-            (Frame::Locked { place, misses }, SYNC) => {
+            (Frame::Locked { place, misses }, SYNC | MARK) => {
                 self.frame = Frame::Locked {
                     place: following(place),
                     misses,
                 };
-                Ok(place)
-            }
-            (Frame::Locked { place, misses }, MARK) => {
-                self.frame = Frame::Locked {
-                    place: following(place),
-                    misses,
-                };
-                self.strays = self.strays.saturating_add(1);
+                if first == MARK {
+                    self.strays = self.strays.saturating_add(1);
+                }
                 Ok(place)
             }
             _ => Err(Refusal::NoSyncByte),

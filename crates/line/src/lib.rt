@@ -67,9 +67,8 @@ impl LineRefusal {
         match self.fault {
             LineFault::WrongLength | LineFault::NotLevel => self,
             _ => LineRefusal {
-                fault: self.fault,
-                next: self.next,
                 depth: self.depth.saturating_add(1),
+                ..self
             },
         }
     }

@@ -73,7 +73,7 @@ pub fn combine(bytes: &[u8], place: usize, out: &mut [u8]) -> Result<(), Refusal
     ensures answer { result ≡ combine_answer (length bytes.now) (length out.old) }
     ensures after { MatchResult result (λ _. out.new ≡ randomized place bytes.now) (λ _. out.new ≡ out.old) }
 {
-    let bytes = <&[u8; BYTES]>::try_from(bytes).map_err(|_| Refusal::WrongLength)?;
+    let bytes = bytes.as_array::<BYTES>().ok_or(Refusal::WrongLength)?;
     let out = out.as_mut_array::<BYTES>().ok_or(Refusal::WrongLength)?;
     xor_each(bytes, &keys(first_state(place)), out);
     Ok(())

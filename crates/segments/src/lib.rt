@@ -85,7 +85,7 @@ fn bit_level(bit: bool) -> i8
     if bit { 5 } else { -5 }
 }
 
-// The levels of the 820 bits of a field sync.
+// The levels of the 820 bits of a field sync: of its sync data and its field, which a struct would join for this one call.
 fn bit_levels(sync: &[u8; 15], second: bool) -> [i8; 820]
     ensures { result ≡ field_head sync.now second }
 {

@@ -18,17 +18,25 @@ const ROUNDS: usize = 200;
 const TURNS: usize = 9;
 
 // Calls in one turn.
-const CALLS: u128 = 12800;
+const CALLS: u128 = ROWS as u128 * ROUNDS as u128;
 
 // Why a call is not timed.
-#[derive(Clone, Copy, Debug)]
+#[derive(Debug, Drop)]
 enum Failure {
+    // The clock or the printing failed.
+    Io(io::Error),
     // The call refused.
     Refused(Refusal),
     // A completed row is no code row.
     NoCodeRow,
     // The calls leave a row of zeros.
     BlankRow,
+}
+
+impl From<io::Error> for Failure {
+    fn from(error: io::Error) -> Failure {
+        Failure::Io(error)
+    }
 }
 
 impl From<Refusal> for Failure {
@@ -107,10 +115,7 @@ impl Bench {
             quad,
             symbols: [7; 828],
             reader: Reader::new(),
-            read: [Marked {
-                byte: 0,
-                marked: false,
-            }; 828],
+            read: [Marked::default(); 828],
         })
     }
 }
@@ -139,26 +144,22 @@ fn work_rounds<W: FnMut(&mut Bench, usize, &mut [u8; 207]) -> Result<(), Failure
 fn best<W: FnMut(&mut Bench, usize, &mut [u8; 207]) -> Result<(), Failure>>(
     rt: &HostRuntime,
     mut work: W,
-) -> io::Result<Result<Duration, Failure>>
+) -> Result<Duration, Failure>
     requires { (state : W) (bench : _) (i : _) (row : _) → W.pre state bench i row }
 {
-    let (mut bench, mut rows) = match (Bench::new(), code_rows()) {
-        (Ok(bench), Ok(rows)) => (bench, rows),
-        (Err(refusal), _) | (_, Err(refusal)) => return Ok(Err(refusal.into())),
-    };
+    let mut bench = Bench::new()?;
+    let mut rows = code_rows()?;
     let mut least = Duration::MAX;
     for _ in 0..TURNS {
         let start = Instant::now(rt)?;
         let done = work_rounds(&mut work, &mut bench, &mut rows);
         least = least.min(start.elapsed(rt)?);
-        if let Err(why) = done {
-            return Ok(Err(why));
-        }
+        done?;
     }
-    Ok(Ok(least))
+    Ok(least)
 }
 
-// Times one call and prints it.
+// Times one call and prints it, or why it is not timed.
 fn report<W: FnMut(&mut Bench, usize, &mut [u8; 207]) -> Result<(), Failure>>(
     rt: &HostRuntime,
     name: &str,
@@ -166,13 +167,14 @@ fn report<W: FnMut(&mut Bench, usize, &mut [u8; 207]) -> Result<(), Failure>>(
 ) -> io::Result<()>
     requires { (state : W) (bench : _) (i : _) (row : _) → W.pre state bench i row }
 {
-    match best(rt, work)? {
+    match best(rt, work) {
         Ok(least) => {
             let all = least.as_nanos();
             let each = all / CALLS;
             let rate = CALLS * 1_000_000_000 / all.max(1);
             eprintln!(rt; "{name} {each} ns, {rate} a second")
         }
+        Err(Failure::Io(error)) => Err(error),
         Err(why) => eprintln!(rt; "{name} is not timed: {why:?}"),
     }
 }

@@ -2,7 +2,7 @@
 ghost use Rattle.std.specs.Prelude.{◌≡◌, IfOk, IfErr, length};
 ghost use Rattle.std.specs.Str.Lines.{lines};
 ghost use Rattle.vectors.specs.Lines.{is_heading, compared, ComparesFirst, StopsAt};
-ghost use Rattle.vectors.specs.Tally.{counts_of, lines_of};
+ghost use Rattle.vectors.specs.Tally.{counts_of, total_of};
 
 use crate::Tally;
 use anyhow::anyhow;
@@ -42,7 +42,7 @@ pub fn compare<E, F: FnMut(usize, &str) -> Result<bool, E>>(
 ) -> Result<Tally, BadLine<E>>
     requires { F.IsAlwaysCallable agrees }
     ensures ok { IfOk result (λ tally. (last : F) × ComparesFirst F.FnMut agrees text.now (length (lines text.now)) (last, counts_of tally)) }
-    ensures every { IfOk result (λ tally. lines_of tally ≡ compared text.now) }
+    ensures every { IfOk result (λ tally. total_of tally ≡ compared text.now) }
     ensures err { IfErr result (λ bad. StopsAt F.FnMut agrees text.now bad.line bad.why) }
 {
     let mut tally = Tally::new();

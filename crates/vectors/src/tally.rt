@@ -1,9 +1,9 @@
-// How many lines agree.
+// What a comparison counts: lines, rows or bytes.
 ghost use Rattle.std.specs.Prelude.{◌≡◌, ◌+◌, ◌^◌, ◌<◌};
 
 use std::fmt;
 
-// How many lines agree, and how many do not.
+// How many agree, and how many do not.
 #[derive(Clone, Copy, PartialEq, Eq, Debug)]
 pub struct Tally {
     pub equal: usize,
@@ -12,9 +12,9 @@ pub struct Tally {
 }
 
 impl Tally {
-    ghost use Rattle.vectors.specs.Tally.{counts_of, lines_of, counted};
+    ghost use Rattle.vectors.specs.Tally.{counts_of, total_of, counted};
 
-    // No line is counted yet.
+    // Nothing is counted yet.
     pub fn new() -> Tally
         ensures { counts_of result ≡ (0, 0) }
     {
@@ -24,16 +24,16 @@ impl Tally {
         }
     }
 
-    // How many lines are counted.
-    pub fn lines(self) -> usize
-        ensures { result ≡ lines_of self }
+    // How many are counted.
+    pub fn total(self) -> usize
+        ensures { result ≡ total_of self }
     {
         self.equal + self.different
     }
 
-    // The tally with one line more, by whether it agrees.
+    // The tally with one more, by whether it agrees.
     pub fn counted(self, agrees: bool) -> Tally
-        requires { lines_of self + 1 < 2 ^ 64 }
+        requires { total_of self + 1 < 2 ^ 64 }
         ensures { counts_of result ≡ counted (counts_of self) agrees }
     {
         let Tally { equal, different } = self;

@@ -22,7 +22,7 @@ fn run(rt: &HostRuntime) -> anyhow::Result<()> {
         println!(rt; "line {number} differs")?;
     }
     let tally = found?;
-    let rows = tally.lines();
+    let rows = tally.total();
     let agree = tally.equal;
     let differ = tally.different;
     println!(rt; "rows {rows} agree {agree} differ {differ}")?;

@@ -37,7 +37,7 @@ fn show_rows(rt: &HostRuntime, found: Comparison) -> anyhow::Result<()> {
 
 // Prints how many bytes were compared under a name, and how many are equal.
 fn show_bytes(rt: &HostRuntime, name: &str, tally: Tally) -> anyhow::Result<()> {
-    let compared = tally.lines();
+    let compared = tally.total();
     println!(rt; "{name} {compared} {tally}")?;
     Ok(())
 }

@@ -45,10 +45,7 @@ fn laid(text: &str) -> Result<[[i8; 828]; 4], VectorError> {
 // What is read of the four segments of the first quad.
 fn read_quad(segments: &[[i8; 828]; 4]) -> Result<[Marked; 828], Refusal> {
     let mut reader = Reader::new();
-    let mut quad = [Marked {
-        byte: 0,
-        marked: false,
-    }; 828];
+    let mut quad = [Marked::default(); 828];
     for (s, segment) in segments.iter().enumerate() {
         reader.read(segment, s, &mut quad)?;
     }

@@ -32,6 +32,7 @@ fn run(rt: &HostRuntime) -> anyhow::Result<()> {
 }
 
 // Compares a file and prints what its lines are, how many there are and how many of them agree.
+// Not by `vectors::report`, which prints no count of all lines and no reason.
 fn compare_file<F: FnMut(usize, &str) -> Result<bool, BadWord>>(
     rt: &HostRuntime,
     name: &str,
@@ -42,7 +43,7 @@ fn compare_file<F: FnMut(usize, &str) -> Result<bool, BadWord>>(
 {
     let text = fs::read_to_string(rt, name).map_err(|why| anyhow!("{name}: {why}"))?;
     let tally = compare(text.as_str(), agrees).map_err(|bad| anyhow!("{name}: {bad}"))?;
-    let all = tally.lines();
+    let all = tally.total();
     println!(rt; "{what} {all} {tally}")?;
     Ok(())
 }
