@@ -1,5 +1,5 @@
 -- Laws of bursts and of what they alter.
-use Rattle.std.proofs.Common.{◌≡◌, ℕ, zero, suc, ◌+◌, ◌-◌, ◌<◌, ◌≤◌, Bool, true, false, cond, ◌||◌, List, [], ◌∷◌, ◌++◌, length, get_or, take, drop, map, set, ℤ, pos, neg_ℤ, Some, None, Ok, Err, Result, sym, refl, ap, ◌∙◌, subst, ⊎_elim, arith, w8, to_z, of_z, MatchResult}
+use Rattle.std.proofs.Common.{◌≡◌, ℕ, zero, suc, ◌+◌, ◌-◌, ◌<◌, ◌≤◌, Bool, true, false, cond, ◌||◌, List, [], ◌∷◌, ◌++◌, length, get_or, take, drop, map, set, ℤ, pos, neg_ℤ, Ok, Err, Result, sym, refl, ap, ◌∙◌, subst, ⊎_elim, arith, w8, to_z, of_z, MatchResult}
 use borrow.Rule.Slice.PartMut.{put_mid}
 use Rattle.std.specs.List.{All, between, list_any}
 use Rattle.std.proofs.lemmas.Int.{to_z-of_z}
@@ -18,7 +18,7 @@ use Rattle.line.specs.Layer.{layered}
 use Rattle.line.proofs.Layers.{layered_arrived}
 use Rattle.bursts.specs.Layer.{first_place}
 use Rattle.bursts.specs.declared.Burst.{Burst}
-use Rattle.bursts.specs.Bursts.{in_part, in_burst, in_bursts, altered, is_bad_after, first_bad_after}
+use Rattle.bursts.specs.Bursts.{in_part, in_burst, in_bursts, altered}
 
 abbrev none : Burst
 none = record { offset = 0; length = 0 }
@@ -39,13 +39,6 @@ covers (b ∷ bs) p = let e = covers bs p in elim (in_burst b p) as (λ t. (t ||
 pub leave_out : (bs : List Burst) (p : ℕ) → All (λ b. in_burst b p ≡ false) bs → in_bursts bs p ≡ false
 leave_out [] p a = refl
 leave_out (b ∷ bs) p a = let h = All-head (λ c. in_burst c p ≡ false) b bs a in let e = leave_out bs p (All-tail (λ c. in_burst c p ≡ false) b bs a) in ap (λ t. cond t true (in_bursts bs p)) h ∙ e
-
--- one burst of the check of a list, and its end
-pub bad_next : (bs : List Burst) (i e : ℕ) → i < length bs → first_bad_after e i (drop i bs) ≡ cond (is_bad_after e (get_or bs i none)) (Some i) (first_bad_after ((get_or bs i none).offset + (get_or bs i none).length) (i + 1) (drop (i + 1) bs))
-bad_next bs i e h = at_drop_more (first_bad_after e i) bs i none h
-
-pub bad_end : (bs : List Burst) (i e : ℕ) → length bs ≤ i → first_bad_after e i (drop i bs) ≡ None
-bad_end bs i e h = at_drop_all (first_bad_after e i) bs i h
 
 -- symbols of which the first i are negated: the next one, one more, and all
 pub next_level : (xs : List ℤ) (i : ℕ) → i < length xs → get_or (map neg_ℤ (take i xs) ++ drop i xs) i (pos 0) ≡ get_or xs i (pos 0)
