@@ -108,8 +108,8 @@ def main():
         ("3 loops that count an index or keep a count", lines(code, r"^ *(while |loop )|for [a-z_]+ in [^ ]*\.\.|^ *[a-z_.]+ (\+= 1;|= [a-z_.]+\.saturating_add\(1\))", r"for _ in|&")),
         ("4 conversions and prints by hand", lines(code, r"fn (digit|hex_digit|pair|level|bit|number_of|level_of|level_bits)\(|Err\(_\) => (return )?Err\(|Err\(\w+\) => (return )?Err\(|Err\(_\) => return")),
         ("5 facts and parameters that come together", facts(code)),
-        ("6 buffers with a length beside, parallel arrays", lines(files, r"^ *(pub )?(len|degree): usize,|: \[\[u8; 11\]; 10\],|^const (HIGH|LOW)_\d+|inverses: \[u8; 10\],")),
-        ("7 switches on which step to run", lines(code, r"match (work|stage|figures)\b|enum (Work|Stage|Figures)|match self\.figures")),
+        ("6 buffers with a length beside, parallel arrays", lines(files, r"^ *(pub(\(crate\))? )?(len|degree): usize,|: \[\[u8; 11\]; 10\],|^const (HIGH|LOW)_\d+|^ *(high|low): \[u\d+; 256\],|inverses: \[u8; 10\],")),
+        ("7 switches on which step to run", lines(code, r"^\s*\w+::\w+(\(\w+\))? => (self\.)?\w+\(|enum (Work|Stage|Figures)|(?<!\w)fn\(")),
     )
     for title, places in found:
         places = list(places)

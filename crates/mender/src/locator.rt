@@ -6,7 +6,7 @@ ghost use Rattle.mender.specs.Pivots.{HasPivots};
 
 use galois::{inverse, mul};
 
-// A monic polynomial, the lowest coefficient first.
+// A monic polynomial, the lowest coefficient first, in memory for the highest degree: there is no heap.
 #[derive(Drop)]
 pub(crate) struct Locator {
     pub(crate) coefficients: [u8; 11],

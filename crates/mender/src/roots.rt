@@ -11,6 +11,7 @@ use galois::{power, scaled};
 use std::array;
 
 // The roots, as powers of 2, and the locator's value at the place of each byte of the row, in memory for the longest one: there is no heap.
+// What the values are is said by the functions: as a field it would need the locator and the row's length beside them.
 #[derive(Drop)]
 pub(crate) struct Roots {
     pub(crate) at: ArrayVec<u8, 10>,
