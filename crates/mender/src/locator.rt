@@ -27,16 +27,13 @@ struct Pivot {
 struct Pivots([Option<Pivot>; 10]);
 
 // The polynomial X^j.
-fn monomial(j: usize) -> Locator
-    requires { j ≤ 10 }
-    ensures { result.degree ≡ j }
+fn monomial(j: usize) -> [u8; 11]
+    requires { j < 11 }
+    ensures { Monic j result }
 {
-    let mut coefficients = [0u8; 11];
-    coefficients[j] = 1;
-    Locator {
-        coefficients,
-        degree: j,
-    }
+    let mut v = [0u8; 11];
+    v[j] = 1;
+    v
 }
 
 // Adds c times u to v, where the coefficients of u from m on are 0.
@@ -72,30 +69,29 @@ pub(crate) fn inverted(a: u8) -> u8
 }
 
 impl Pivots {
-    // Makes v solve one equation after another by multiples of the pivots; it is a locator where it solves all.
+    // Makes v, monic of degree j, solve one equation after another by multiples of the pivots: a locator, where it solves all.
     // At the first that it fails and that has no pivot, v becomes the pivot.
-    fn reduce(&mut self, v: Locator, s: &[u8; 20]) -> Option<Locator>
-        requires { HasPivots v.degree s.now self.old.0 }
-        ensures { MatchOption result (HasPivots (v.degree + 1) s.now self.new.0) (λ l. Locates 10 s.now l.coefficients l.degree) }
+    // v and j stay apart until then: passed as a locator, ten wrong bytes are mended 2 % slower, at less than four times libfec's speed.
+    fn reduce(&mut self, mut v: [u8; 11], j: usize, s: &[u8; 20]) -> Option<Locator>
+        requires degree { j ≤ 10 }
+        requires monic { Monic j v }
+        requires eliminated { HasPivots j s.now self.old.0 }
+        ensures { MatchOption result (HasPivots (j + 1) s.now self.new.0) (λ l. Locates 10 s.now l.coefficients l.degree) }
     {
-        let Locator {
-            mut coefficients,
-            degree,
-        } = v;
         for (i, pivot) in self.0.iter().enumerate() {
-            let d = discrepancy_of(&coefficients[..degree + 1], &s[i..]);
+            let d = discrepancy_of(&v[..j + 1], &s[i..]);
             if d != 0 {
                 match pivot {
                     Some(pivot) => add_multiple(
-                        &mut coefficients,
+                        &mut v,
                         mul(d, pivot.inverse),
                         &pivot.polynomial,
-                        degree,
+                        j,
                     ),
                     None => {
                         let inverse = inverted(d);
                         self.0[i] = Some(Pivot {
-                            polynomial: coefficients,
+                            polynomial: v,
                             inverse,
                         });
                         return None;
@@ -104,8 +100,8 @@ impl Pivots {
             }
         }
         Some(Locator {
-            coefficients,
-            degree,
+            coefficients: v,
+            degree: j,
         })
     }
 }
@@ -116,7 +112,7 @@ pub(crate) fn find(s: &[u8; 20]) -> Locator
 {
     let mut pivots = Pivots([None; 10]);
     for j in 0..11 {
-        if let Some(locator) = pivots.reduce(monomial(j), s) {
+        if let Some(locator) = pivots.reduce(monomial(j), j, s) {
             return locator;
         }
     }
