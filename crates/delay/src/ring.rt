@@ -49,6 +49,7 @@ fn check_length(cells: usize, needed: usize) -> Result<(), Refusal>
 }
 
 // Takes `x` in at its turn, and puts in its place the element that leaves for it.
+// Here and below shape, turn, slots and cells stay apart, and so do the two facts about them: the contracts of `Delay` name its turn and its slots.
 fn through<S: Branching, T: Copy>(
     shape: S,
     turn: &mut S::Turn,

@@ -9,7 +9,7 @@ use crate::branches::{Direction, Shape, Turn};
 use crate::ring::{Branching, clear, pass, push};
 use refusal::Refusal;
 
-// Each call is the ring's. It stands on both memories, since callers know them by these names and promises.
+// The work of `push`, `pass` and `clear` is the ring's. They stand on both memories, since callers know them by these names and promises.
 impl Delay {
     // The cells that the memory needs.
     pub fn len(&self) -> usize

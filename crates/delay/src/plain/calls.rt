@@ -31,7 +31,7 @@ impl Branching for Chain {
     }
 }
 
-// Each call is the ring's. It stands on both memories, since callers know them by these names and promises.
+// The work of `push`, `pass` and `clear` is the ring's. They stand on both memories, since callers know them by these names and promises.
 impl PlainDelay {
     // A delay by so many elements that has taken nothing in.
     pub fn new(size: usize) -> Result<PlainDelay, Refusal>
