@@ -20,7 +20,7 @@ pub use tally::Tally;
 pub enum VectorError {
     // It is no number, or no even number of the digits 0 to 9 and a to f.
     Malformed,
-    // There was no memory for its bytes, or for the words of a line.
+    // There was no memory for its bytes.
     NoMemory,
 }
 

@@ -3,25 +3,36 @@
 
 mod recorded;
 
+use anyhow::anyhow;
 use recorded::Recorded;
-use std::fs;
-use vectors::compare;
+use std::{fs, io};
+use vectors::{BadLine, compare};
 
-// Prints the numbers of the lines of mend.txt that differ, and then how many rows agree.
+// Why not all lines are compared.
+#[derive(Drop)]
+enum Stop {
+    // A line can't be read.
+    Unread(anyhow::Error),
+    // That a line differs can't be printed.
+    Unprinted(io::Error),
+}
+
+// Prints the number of each line of mend.txt that differs as it is found, and then how many rows agree.
 fn run(rt: &HostRuntime) -> anyhow::Result<()> {
     let text = fs::read_to_string(rt, "mend.txt")?;
-    let mut differing = Vec::new(rt.alloc());
-    let found = compare(text.as_str(), |number, line| -> anyhow::Result<bool> {
-        let agrees = Recorded::read(rt.alloc(), line)?.agrees();
+    let tally = compare(text.as_str(), |number, line| {
+        let agrees = Recorded::read(rt.alloc(), line)
+            .map_err(Stop::Unread)?
+            .agrees();
         if !agrees {
-            differing.push(number)?;
+            println!(rt; "line {number} differs").map_err(Stop::Unprinted)?;
         }
         Ok(agrees)
-    });
-    for number in &differing {
-        println!(rt; "line {number} differs")?;
-    }
-    let tally = found?;
+    })
+    .map_err(|BadLine { line, why }| match why {
+        Stop::Unread(why) => anyhow!("line {line}: {why}"),
+        Stop::Unprinted(why) => anyhow::Error::from(why),
+    })?;
     let rows = tally.total();
     let agree = tally.equal;
     let differ = tally.different;

@@ -1,7 +1,8 @@
 // A line of the recorded rows: length, result, wrong bytes, received row and code row, with a space between.
 use anyhow::{anyhow, bail, ensure};
 use mender::{Mending, mend};
-use std::alloc::Global;
+use std::alloc::{AllocError, Global};
+use std::array;
 use vectors::{VectorError, bytes};
 
 // What mending has to answer, the received row, and the row afterwards.
@@ -15,8 +16,16 @@ pub(crate) struct Recorded {
 impl Recorded {
     // Reads a line; where the code row is a dash, the received row has to stay.
     pub(crate) fn read(alloc: Global, line: &str) -> anyhow::Result<Recorded> {
-        let words: Vec<&str> = line.split(' ').collect(alloc)?;
-        let [length, outcome, wrong, row, code] = words.as_slice() else {
+        let mut words = line.split(' ');
+        let [
+            Some(length),
+            Some(outcome),
+            Some(wrong),
+            Some(row),
+            Some(code),
+            None,
+        ]: [_; 6] = array::from_fn(|_| words.next())
+        else {
             bail!("a line has not five parts");
         };
         let received = row_bytes(alloc, row)?;
@@ -24,7 +33,7 @@ impl Recorded {
             length.parse::<usize>()? == received.len(),
             "a row has another length"
         );
-        let after = row_bytes(alloc, if *code == "-" { row } else { code })?;
+        let after = row_bytes(alloc, if code == "-" { row } else { code })?;
         Ok(Recorded {
             mending: mending(outcome, wrong)?,
             received,
@@ -49,7 +58,7 @@ fn row_bytes(alloc: Global, digits: &str) -> anyhow::Result<Vec<u8>> {
     ensure!(digits.len() % 2 == 0, "a row has an odd number of digits");
     bytes(alloc, digits.as_bytes()).map_err(|why| match why {
         VectorError::Malformed => anyhow!("a row has something else than hexadecimal digits"),
-        VectorError::NoMemory => anyhow!(why),
+        VectorError::NoMemory => anyhow::Error::from(AllocError),
     })
 }
 

@@ -3,12 +3,13 @@
 use randomizer::{code_packet, combine};
 use reed_solomon::complete;
 use std::alloc::Global;
+use std::array;
 use vectors::{VectorError, bytes};
 
 // Whether the data are completed by the recorded parity bytes: the number of data bytes, the data, their twenty parity bytes.
 pub(crate) fn parity_agrees(alloc: Global, line: &str) -> Result<bool, VectorError> {
-    let words: Vec<&str> = line.split(' ').collect(alloc)?;
-    let [_, data, parity] = words.as_slice() else {
+    let mut words = line.split(' ');
+    let [Some(_), Some(data), Some(parity), None]: [_; 4] = array::from_fn(|_| words.next()) else {
         return Err(VectorError::Malformed);
     };
     let mut row = bytes(alloc, data.as_bytes())?;
@@ -22,8 +23,9 @@ pub(crate) fn parity_agrees(alloc: Global, line: &str) -> Result<bool, VectorErr
 
 // Whether the packet at its place has the recorded row: a place in the field, a packet, its row.
 pub(crate) fn row_agrees(alloc: Global, line: &str) -> Result<bool, VectorError> {
-    let words: Vec<&str> = line.split(' ').collect(alloc)?;
-    let [place, packet, recorded] = words.as_slice() else {
+    let mut words = line.split(' ');
+    let [Some(place), Some(packet), Some(recorded), None]: [_; 4] = array::from_fn(|_| words.next())
+    else {
         return Err(VectorError::Malformed);
     };
     let place = place.parse::<usize>()?;

@@ -3,6 +3,7 @@ ghost use Rattle.std.specs.Prelude.{◌<◌, ◌^◌};
 
 use refusal::Refusal;
 use std::alloc::Global;
+use std::array;
 use std::num::ParseIntError;
 use std::str::{FromStr, Split};
 use trellis::{Encoder, Marked, Reader, Trellis};
@@ -15,8 +16,8 @@ fn next<T: FromStr<Err = ParseIntError>>(numbers: &mut Split<'_, char>) -> Resul
 
 // Whether a new encoder sends the recorded levels for the bytes: bytes given to it, and the levels it sends.
 pub(crate) fn encoder_agrees(alloc: Global, line: &str) -> Result<bool, VectorError> {
-    let words: Vec<&str> = line.split(' ').collect(alloc)?;
-    let [data, levels] = words.as_slice() else {
+    let mut words = line.split(' ');
+    let [Some(data), Some(levels), None]: [_; 3] = array::from_fn(|_| words.next()) else {
         return Err(VectorError::Malformed);
     };
     let data = bytes(alloc, data.as_bytes())?;
@@ -54,8 +55,8 @@ fn read_quad(segments: &[[i8; 828]; 4]) -> Result<[Marked; 828], Refusal> {
 
 // Whether encoder 0's levels are read as the recorded bytes with the recorded marks: levels from the start on, the bytes read, their marks, and more that is not compared.
 pub(crate) fn reader_agrees(alloc: Global, line: &str) -> Result<bool, VectorError> {
-    let words: Vec<&str> = line.split(' ').collect(alloc)?;
-    let [levels, read, marks, ..] = words.as_slice() else {
+    let mut words = line.split(' ');
+    let [Some(levels), Some(read), Some(marks)]: [_; 3] = array::from_fn(|_| words.next()) else {
         return Err(VectorError::Malformed);
     };
     let segments = laid(levels)?;

@@ -2,12 +2,14 @@
 use crate::parse;
 use crate::parse::BadWord;
 use segments::{FieldReport, read_field_sync, write_field_sync};
-use std::alloc::Global;
+use std::array;
 
 // Whether the field sync that is written is the one of the line: field, sync data, last twelve symbols, field sync.
-pub(crate) fn sync_agrees(alloc: Global, line: &str) -> Result<bool, BadWord> {
-    let words: Vec<&str> = line.split(' ').collect(alloc)?;
-    let [second, sync, last, expected] = words.as_slice() else {
+pub(crate) fn sync_agrees(line: &str) -> Result<bool, BadWord> {
+    let mut words = line.split(' ');
+    let [Some(second), Some(sync), Some(last), Some(expected), None]: [_; 5] = array::from_fn(
+        |_| words.next(),
+    ) else {
         return Err(BadWord::Parts);
     };
     let second = parse::bit(second)?;
@@ -18,9 +20,16 @@ pub(crate) fn sync_agrees(alloc: Global, line: &str) -> Result<bool, BadWord> {
 }
 
 // Whether the report of a received field sync is the one of the line: received field sync, inverted, wrong signs, sync data.
-pub(crate) fn report_agrees(alloc: Global, line: &str) -> Result<bool, BadWord> {
-    let words: Vec<&str> = line.split(' ').collect(alloc)?;
-    let [segment, inverted, wrong, expected] = words.as_slice() else {
+pub(crate) fn report_agrees(line: &str) -> Result<bool, BadWord> {
+    let mut words = line.split(' ');
+    let [
+        Some(segment),
+        Some(inverted),
+        Some(wrong),
+        Some(expected),
+        None,
+    ]: [_; 5] = array::from_fn(|_| words.next())
+    else {
         return Err(BadWord::Parts);
     };
     let segment = parse::segment(segment)?;

@@ -16,18 +16,17 @@ fn main(rt: HostRuntime) -> anyhow::Result<()> {
 
 // Compares both files and prints a line for each.
 fn run(rt: &HostRuntime) -> anyhow::Result<()> {
-    let alloc = rt.alloc();
     compare_file(
         rt,
         "fieldsync.txt",
         "field syncs",
-        |_, line| sync_agrees(alloc, line),
+        |_, line| sync_agrees(line),
     )?;
     compare_file(
         rt,
         "fieldreport.txt",
         "field reports",
-        |_, line| report_agrees(alloc, line),
+        |_, line| report_agrees(line),
     )
 }
 

@@ -1,5 +1,4 @@
 // Reads the words of a line: bits, bytes in hexadecimal digits and levels.
-use std::alloc::AllocError;
 use std::error::Error;
 use std::fmt;
 use std::num::ParseIntError;
@@ -14,8 +13,6 @@ pub(crate) enum BadWord {
     Length,
     // A sign stands where it has no meaning.
     Sign,
-    // There was no memory for the parts.
-    NoMemory,
 }
 
 impl fmt::Display for BadWord {
@@ -24,18 +21,11 @@ impl fmt::Display for BadWord {
             BadWord::Parts => "a line has another number of parts",
             BadWord::Length => "a part of a line has another length",
             BadWord::Sign => "a sign stands where it has no meaning",
-            BadWord::NoMemory => "no memory for the parts of a line",
         })
     }
 }
 
 impl Error for BadWord {}
-
-impl From<AllocError> for BadWord {
-    fn from(_e: AllocError) -> BadWord {
-        BadWord::NoMemory
-    }
-}
 
 impl From<ParseIntError> for BadWord {
     fn from(_e: ParseIntError) -> BadWord {
@@ -71,7 +61,12 @@ fn level(sign: u8) -> Result<i8, BadWord> {
 // The 832 levels of a segment, by their Z numbers.
 pub(crate) fn segment(text: &str) -> Result<[i8; 832], BadWord> {
     let signs = <&[u8; 832]>::try_from(text.as_bytes()).map_err(|_| BadWord::Length)?;
-    signs.try_map(level)
+    // Not by `try_map`, with which reading a line takes about three times as long.
+    let mut levels = [0; 832];
+    for (symbol, sign) in levels.iter_mut().zip(signs) {
+        *symbol = level(*sign)?;
+    }
+    Ok(levels)
 }
 
 // A memory of 832 symbols that ends in the twelve of a list.
