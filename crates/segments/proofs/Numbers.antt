@@ -7,7 +7,7 @@ use Rattle.segments.specs.Pn.{odd}
 use Rattle.segments.specs.Report.{count, number}
 
 -- a bit is at most one
-bit_small : (b : Bool) → bit b ≤ 1
+pub bit_small : (b : Bool) → bit b ≤ 1
 bit_small true = omega arith
 bit_small false = omega arith
 
@@ -22,6 +22,12 @@ pub count_always : (test : ℕ → Bool) (b : Bool) (n : ℕ) → ((k : ℕ) →
 unfolding count
 count_always test b zero h = omega arith
 count_always test b (suc n) h = let i = count_always test b n (λ k l. h k (omega arith)) in rw (h n (omega arith)) (omega arith)
+
+-- a count is at most the number of tests
+pub count_small : (test : ℕ → Bool) (n : ℕ) → count test n ≤ n
+unfolding count
+count_small test zero = omega arith
+count_small test (suc n) = let h = count_small test n in let b = bit_small (test n) in omega arith
 
 -- a number of n bits is below 2 to the n
 number_small : (bits : ℕ → Bool) (n : ℕ) → number bits n < 2 ^ n

