@@ -57,6 +57,13 @@ all_negated [] (suc n) h = refl
 all_negated (x ∷ xs) zero h = absurd (omega arith)
 all_negated (x ∷ xs) (suc n) h = ap (λ ys. neg_ℤ x ∷ ys) (all_negated xs n (omega arith))
 
+-- of two lists of one length, the first symbols of one negated before the rest of the other: one more
+pub one_negated : (xs ys : List ℤ) (i : ℕ) (v : ℤ) → i < length xs → length ys ≡ length xs → v ≡ neg_ℤ (get_or xs i (pos 0)) → set (map neg_ℤ (take i xs) ++ drop i ys) i v ≡ map neg_ℤ (take (suc i) xs) ++ drop (suc i) ys
+one_negated [] ys i v h l e = absurd (omega arith)
+one_negated (x ∷ xs) [] i v h l e = absurd (omega arith)
+one_negated (x ∷ xs) (y ∷ ys) zero v h l e = ap (λ z. z ∷ ys) e
+one_negated (x ∷ xs) (y ∷ ys) (suc i) v h l e = ap (λ zs. neg_ℤ x ∷ zs) (one_negated xs ys i v (omega arith) (omega arith) e)
+
 -- the opposite of one of several levels, as it is read and written
 pub opposite_read : (xs : List ℤ) (i : ℕ) (r : ℤ) → all_levels xs ≡ true → i < length xs → r ≡ neg_ℤ (to_z w8 (of_z w8 (get_or xs i (pos 0)))) → to_z w8 (of_z w8 r) ≡ neg_ℤ (get_or xs i (pos 0))
 opposite_read xs i r e h q =

@@ -138,9 +138,9 @@ fn negate(levels: &[i8], out: &mut [i8])
     requires same { length out.old ≡ length levels.now }
     ensures { out.new ≡ map neg_ℤ levels.now }
 {
-    out.copy_from_slice(levels);
-    for level in out.iter_mut() {
-        *level = opposite(*level);
+    // By index: a copy that is then negated in place takes half as long again.
+    for (i, level) in levels.iter().enumerate() {
+        out[i] = opposite(*level);
     }
 }
 
@@ -175,6 +175,10 @@ impl<L: Line> BurstLayer<L> {
         ensures lower { MatchResult result (λ _. Arrived (L.Line.state self.old.lower) (altered self.old.list.items (first_place (L.Line.state self.old.lower)) segment.now) (L.Line.state self.new.lower)) (λ _. L.Line.state self.new.lower ≡ L.Line.state self.old.lower) }
     {
         let first = 832 * self.number();
+        // No burst is asked for where the lower line refuses the length.
+        if segment.len() != 832 {
+            return self.lower.put(segment);
+        }
         if !any_meets(&self.list, first) {
             return self.lower.put(segment);
         }

@@ -11,10 +11,10 @@ returns-then-not-any_meets-clause-lower g c =
     let s = state c.args.self.now.lower in
     let bs = vec_items c.args.self.now.list in
     let f = c.args.segment.now in
-    untouched s (state c.put.new.self) bs (first_place s) f c.put.result c.put.ensures.answer
+    untouched s (state c.put-then-not-any_meets.new.self) bs (first_place s) f c.put-then-not-any_meets.result c.put-then-not-any_meets.ensures.answer
     (λ long levels. altered_none bs (first_place s) f (λ i h.
     ap (λ (l : List Burst). in_bursts l (first_place s + i)) (sym c.deref.ensures.value) ∙ ap (λ n. in_bursts c.deref.result.now (832 * n + i)) (sym c.number-first.ensures) ∙ c.if-not-any_meets.ensures refl i (omega arith)))
-    c.put.ensures.after
+    c.put-then-not-any_meets.ensures.after
 
 pub returns-clause-answer : goal.returns-clause-answer
 returns-clause-answer g c =
