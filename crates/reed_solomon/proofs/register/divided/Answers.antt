@@ -1,6 +1,6 @@
 use Rattle.std.proofs.Common.{◌≡◌, ℕ, zero, suc, ◌+◌, ◌*◌, ◌/◌, ◌<◌, List, [], length, get_or, take, drop, sym, refl, ap, ap₂, ◌∙◌, arith, lit<}
 use Rattle.std.specs.Simd.{first_chunks}
-use Rattle.std.proofs.lemmas.List.{take_more, get_or-take, get_or-drop}
+use Rattle.std.proofs.lemmas.List.{take_more, take_all, get_or-take, get_or-drop}
 use Rattle.reed_solomon.specs.Held.{held, digits, step}
 use Rattle.rows.proofs.Steps.{parity_more}
 use Rattle.rows.specs.Parity.{parity, division}
@@ -33,9 +33,12 @@ loop-a-preserved c =
     c.roll_two-left.ensures ∙ ap₂ step (ap₂ step c.loop-a.invariant a) b
     ∙ sym (parity_next row (i + 1) (2 * (c.loop-a.a-index + 1)) (omega arith) (omega arith) ∙ ap (λ (r : List ℕ). step r (get_or row (i + 1) 0)) (parity_next row i (i + 1) (omega arith) refl))
 
-pub loop-b-preserved : goal.loop-b-preserved
-loop-b-preserved c =
+pub returns-in-len1 : goal.returns-in-len1
+returns-in-len1 c =
     let row : List ℕ = c.args.bytes.now in
     let m : ℕ = length row / 2 * 2 in
-    let b = ap (λ (bytes : List ℕ). get_or bytes c.loop-b.b-index 0) c.as_chunks.ensures.back ∙ get_or-drop m row c.loop-b.b-index 0 in
-    c.roll-left.ensures ∙ ap₂ step c.loop-b.invariant b ∙ sym (parity_next row (m + c.loop-b.b-index) (m + (c.loop-b.b-index + 1)) (omega arith) (omega arith))
+    let even : 2 * c.loop-a.a-index ≡ m = omega arith in
+    let at : m + 0 ≡ m = omega arith in
+    let b = ap (λ (bytes : List ℕ). get_or bytes 0 0) c.as_chunks.ensures.back ∙ get_or-drop m row 0 0 ∙ ap (λ (k : ℕ). get_or row k 0) at in
+    c.roll.ensures ∙ ap₂ step (c.loop-a.invariant ∙ ap (λ (k : ℕ). parity 20 (take k row)) even) b
+    ∙ sym (parity_next row m (length row) (omega arith) (omega arith)) ∙ ap (parity 20) (take_all (length row) row (omega arith))
