@@ -1,15 +1,28 @@
 -- The elimination: a monic polynomial is made to solve one equation more by a multiple of the pivot there, or becomes the pivot.
-use Rattle.std.proofs.Common.{◌≡◌, ℕ, ◌+◌, ◌<◌, ◌≤◌, cond, List, length, get_or, set, Option, Some, None, is_some, count_by, sym, ap, ◌∙◌, arith, length-set, get_or-set_other, get_or-set_same}
+use Rattle.std.proofs.Common.{◌≡◌, ℕ, suc, ◌+◌, ◌<◌, ◌≤◌, cond, List, [], ◌∷◌, length, get_or, set, Option, Some, None, is_some, count_by, sym, refl, ap, ◌∙◌, arith, length-set, get_or-set_other, get_or-set_same}
 use native.Mathlib.Decide.{ℕ_discrete, dec_lt}
 use lib.Bits.{bit_xor, xor_zero_r}
 use borrow.Author.Count.{below_more}
 use Rattle.std.proofs.lemmas.List.{get_or_past}
-use Rattle.std.proofs.lemmas.List.Sums.{sum_by-set}
+use Rattle.std.proofs.lemmas.List.Sums.{sum_by-cons, sum_by-set, count_by-le-length}
 use Rattle.galois.specs.Field.{gf_mul}
 use Rattle.galois.proofs.Laws.{mul_zero_right}
 use Rattle.rows.specs.Code.{Bytes}
 use Rattle.correction.specs.Equations.{discrepancy, Solves, Monic, IsPivot, Eliminated, Locates}
 use Rattle.correction.proofs.Discrepancies.{discrepancy_short, plus_solves, plus_clears}
+
+none_counted : {P : Type 0} (pivots : List (Option P)) → ((k : ℕ) → get_or pivots k None ≡ None) → count_by is_some pivots ≡ 0
+none_counted [] z = refl
+none_counted (p ∷ ps) z = let f = λ (o : Option _). cond (is_some o) 1 0 in sum_by-cons f p ps ∙ (let a : f p ≡ 0 = ap f (z 0) in let b = none_counted ps (λ k. z (suc k)) in omega arith)
+
+-- there is no pivot yet
+pub eliminated_none : {P : Type 0} (polynomial : P → List ℕ) (inverse : P → ℕ) (t : ℕ) (s : List ℕ) (pivots : List (Option P)) → length pivots ≡ t → ((k : ℕ) → get_or pivots k None ≡ None)
+    → Eliminated polynomial inverse t 0 s pivots
+eliminated_none polynomial inverse t s pivots l z = record { long = l; each = λ i p e. let x : None ≡ Some p = sym (z i) ∙ e in absurd (grind (arith, x)); count = none_counted pivots z }
+
+-- there are no more pivots than equations
+pub eliminated_few : {P : Type 0} (polynomial : P → List ℕ) (inverse : P → ℕ) (t j : ℕ) (s : List ℕ) (pivots : List (Option P)) → Eliminated polynomial inverse t j s pivots → j ≤ t
+eliminated_few polynomial inverse t j s pivots E = let n = count_by-le-length is_some pivots in let c = E.count in let l = E.long in omega arith
 
 -- the monic polynomial v of degree j solves the first i equations
 pub record Reduced {P : Type 0} (polynomial : P → List ℕ) (inverse : P → ℕ) (t j i : ℕ) (s v : List ℕ) (pivots : List (Option P)) : Type 0 where

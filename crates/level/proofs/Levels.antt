@@ -1,5 +1,6 @@
 -- Laws of levels, by the eight cases.
-use Rattle.std.proofs.Common.{◌≡◌, ℕ, zero, suc, ◌<◌, Bool, true, List, [], ◌∷◌, ◌++◌, length, get_or, take, drop, ℤ, pos, negsuc, neg_ℤ, refl, ap, ◌∙◌, arith, w8, SFits, to_z, of_z}
+use Rattle.std.proofs.Common.{◌≡◌, ℕ, zero, suc, ◌+◌, ◌<◌, ◌≤◌, Bool, true, false, cond, List, [], ◌∷◌, ◌++◌, length, get_or, take, drop, ℤ, pos, negsuc, neg_ℤ, refl, ap, ◌∙◌, add-one, arith, drop-cons, w8, SFits, to_z, of_z}
+use Rattle.std.proofs.lemmas.List.{drop_all}
 use Rattle.std.proofs.lemmas.Int.{to_z-of_z}
 use Rattle.level.specs.Level.{level_of, bits_of, is_level, all_levels, LevelLaws}
 
@@ -39,10 +40,23 @@ levels_drop zero xs e = e
 levels_drop (suc n) [] e = refl
 levels_drop (suc n) (x ∷ xs) e = levels_drop n xs (grind arith)
 
+-- one symbol of a walk along the symbols
+pub levels_next : (xs : List ℤ) (i : ℕ) → i < length xs → all_levels (drop i xs) ≡ cond (is_level (get_or xs i (pos 0))) (all_levels (drop (i + 1) xs)) false
+levels_next xs i h = rw add-one (ap all_levels (drop-cons xs i (pos 0) h))
+
+-- its end
+pub levels_end : (xs : List ℤ) (i : ℕ) → length xs ≤ i → all_levels (drop i xs) ≡ true
+levels_end xs i h = ap all_levels (drop_all i xs h)
+
 -- levels one after the other
 pub levels_append : (xs ys : List ℤ) → all_levels xs ≡ true → all_levels ys ≡ true → all_levels (xs ++ ys) ≡ true
 levels_append [] ys e f = f
 levels_append (x ∷ xs) ys e f = let t = levels_append xs ys (grind arith) f in grind arith
+
+-- symbols that are each a level are all levels
+pub levels_from : (xs : List ℤ) → ((k : ℕ) → k < length xs → is_level (get_or xs k (pos 0)) ≡ true) → all_levels xs ≡ true
+levels_from [] f = refl
+levels_from (x ∷ xs) f = let a : is_level x ≡ true = f 0 (omega arith) in let b = levels_from xs (λ k h. f (suc k) (omega arith)) in grind arith
 
 -- a level fits a signed byte
 pub level_fits : (v : ℤ) → is_level v ≡ true → SFits w8 v

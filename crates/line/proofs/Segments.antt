@@ -20,3 +20,7 @@ segments_of (g ∷ gs) e = All-cons Segment g gs (segment_of g (grind arith)) (s
 pub segments_push : (gs : List (List ℤ)) (g : List ℤ) → all_segments gs ≡ true → Segment g → all_segments (gs ++ g ∷ []) ≡ true
 segments_push [] g e s = let t = segment_is g s in grind arith
 segments_push (x ∷ gs) g e s = let u = segments_push gs g (grind arith) s in grind arith
+
+-- all but the first
+pub segments_rest : (g : List ℤ) (gs : List (List ℤ)) → all_segments (g ∷ gs) ≡ true → all_segments gs ≡ true
+segments_rest g gs e = grind arith

@@ -24,6 +24,10 @@ each_slot P room h (suc n) f = All-push P (from_slot room h n) (following room (
 pub next_is_free : (room h n : ℕ) → h < room → n < room → All (λ j. j ≡ following room (h + n) → ⊥) (from_slot room h n)
 next_is_free room h n a b = each_slot (λ j. j ≡ following room (h + n) → ⊥) room h n (λ k l. apart room h k n a b l)
 
+-- every slot lies in the memory
+pub slots_inside : (room h n : ℕ) → h < room → n ≤ room → All (λ j. j < room) (from_slot room h n)
+slots_inside room h n a b = each_slot (λ j. j < room) room h n (λ k l. inside room h k a (omega arith))
+
 next : (room h n : ℕ) → h < room → n < room → following room (h + suc n) ≡ following room (following room (h + 1) + n)
 next room h n a b = grind arith
 
