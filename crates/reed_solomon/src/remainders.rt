@@ -6,6 +6,8 @@ use crate::register::divided;
 use std::array;
 
 // The remainder of the row: it has the row's values at the first 20 powers of 2.
+// It is compiled apart: inlined where a refusal may stand in its place, its bytes are put together one by one.
+#[inline(never)]
 pub(crate) fn remainder(row: &[u8]) -> [u8; 20]
     requires { 20 ≤ length row.now }
     ensures { result ≡ remainder 20 row.now }
